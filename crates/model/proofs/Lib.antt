@@ -1,0 +1,4 @@
+-- Proofs over the definitions.
+pub mod TimeLaws
+pub mod EdgeLaws
+pub mod Sample

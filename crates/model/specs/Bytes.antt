@@ -1,0 +1,57 @@
+-- Numbers in bytes, bytes written into a buffer, and the reading of one thing after another.
+-- Document 01, 'Terms and log', first paragraph. `w` is a width in bytes: everything holds for each. Assumes nothing: these are definitions.
+use Prim.Native.Nat.{ℕ, zero, suc, _+_, _*_, _/_, _%_}
+use mathlib.Core.Bool.{cond, _&&_}
+use mathlib.Core.List.{List, [], _∷_, _++_}
+use mathlib.Core.Option.{Option, none, some}
+use lib.Dec.{leb, eqb}
+use lib.ListN.{length, getD, take, drop}
+
+-- a number in w bytes, low byte first
+unfoldable pub bytesOf : ℕ → ℕ → List ℕ
+bytesOf zero n = []
+bytesOf (suc w) n = n % 256 ∷ bytesOf w (n / 256)
+
+-- the number that bytes stand for, low byte first
+unfoldable pub numberOf : List ℕ → ℕ
+numberOf [] = 0
+numberOf (b ∷ s) = b + 256 * numberOf s
+
+-- the byte at a place
+unfoldable pub byteAt : List ℕ → ℕ → ℕ
+byteAt s at = getD s at 0
+
+-- the number in w bytes from a place on
+unfoldable pub numberAt : ℕ → List ℕ → ℕ → ℕ
+numberAt w s at = numberOf (take w (drop at s))
+
+-- a buffer with bytes put at a place, and every other byte as it was
+unfoldable pub written : List ℕ → ℕ → List ℕ → List ℕ
+written buffer at bs = take at buffer ++ (bs ++ drop (at + length bs) buffer)
+
+-- what is read at the front of bytes, with the bytes behind it; none where it does not stand there
+abbrev pub Reader : Type 0 → Type 0
+Reader A = List ℕ → Option (A × List ℕ)
+
+-- the second reading goes on with what the first one found
+abbrev pub andThen : {A B : Type 0} → Option A → (A → Option B) → Option B
+andThen none f = none
+andThen (some a) f = f a
+
+-- one thing after another as far as they can be read, at most n, with the bytes left over
+unfoldable pub many : {A : Type 0} → Reader A → ℕ → List ℕ → List A × List ℕ
+many reader zero s = ([], s)
+many reader (suc n) s = elim (reader s) [
+  | none ↦ ([], s)
+  | some found ↦ let rest = many reader n (found .1) in (found .0 ∷ rest .0, rest .1)
+]
+
+-- the first reading, or else the second
+abbrev pub orElse : {A : Type 0} → Option A → Option A → Option A
+orElse none b = b
+orElse (some a) b = some a
+
+-- an item: its kind byte, then a body of n bytes, whatever they hold; the body is what is read
+unfoldable pub item : ℕ → ℕ → Reader (List ℕ)
+item kind n [] = none
+item kind n (b ∷ s) = cond (eqb b kind && leb n (length s)) (some (take n s, drop n s)) none

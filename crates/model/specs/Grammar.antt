@@ -1,0 +1,136 @@
+-- The grammar of terms: items by their kind bytes and lengths alone, whatever their bodies hold.
+-- Document 01, 'Terms and log': terms items and grammar; refusal 2. Assumes nothing: these are definitions.
+use Prim.Native.Nat.{ℕ, zero, suc, _+_, _-_, _≤_}
+use mathlib.Core.Path.{_≡_}
+use mathlib.Core.Bool.{Bool, not, _||_}
+use mathlib.Core.List.{List, [], _∷_, _++_, flatMap}
+use mathlib.Core.Option.{none, some}
+use lib.ListN.{length}
+use Rattle.model.specs.Lists.{isEmpty, All}
+use Rattle.model.specs.Terms.{Expr, leaf, and, or, except, always, leaves}
+use Rattle.model.specs.Bytes.{Reader, andThen, orElse, many, item}
+
+-- an item 02 and its three expressions, each body as its bytes
+pub record SchemaItems : Type 0 where
+  -- the body of the item 02
+  pub head : List ℕ
+  -- the create expression
+  pub create : Expr (List ℕ)
+  -- the detach expression
+  pub detach : Expr (List ℕ)
+  -- the consequent expression
+  pub consequent : Expr (List ℕ)
+
+-- what is read of terms
+pub record TermsFile : Type 0 where
+  -- the bodies of the items 01
+  pub kinds : List (List ℕ)
+  -- the schemas
+  pub schemas : List SchemaItems
+  -- the bytes at which the grammar is broken: none in a whole file
+  pub rest : List ℕ
+
+-- how many items an expression has
+unfoldable pub size : {A : Type 0} → Expr A → ℕ
+size (leaf x) = 1
+size (and a b) = suc (size a + size b)
+size (or a b) = suc (size a + size b)
+size (except a b) = suc (size a + size b)
+size always = 1
+
+-- two expressions of at most so many items together, joined
+unfoldable pub readBoth : (ℕ → Reader (Expr (List ℕ))) → ℕ → (Expr (List ℕ) → Expr (List ℕ) → Expr (List ℕ)) → Reader (Expr (List ℕ))
+readBoth reader items join s =
+    andThen (reader items s) λ a.
+    andThen (reader (items - size (a .0)) (a .1)) λ b.
+    some (join (a .0) (b .0), b .1)
+
+-- an expression of at most so many items, and no deeper than n: 03 a leaf; 04 and, 05 or, 06 except, then two expressions; 07 always
+unfoldable pub readExpr : ℕ → ℕ → Reader (Expr (List ℕ))
+readExpr zero items s = none
+readExpr (suc n) zero s = none
+readExpr (suc n) (suc items) s =
+    orElse (andThen (item 3 16 s) λ x. some (leaf (x .0), x .1))
+    (orElse (andThen (item 4 0 s) λ x. readBoth (readExpr n) items and (x .1))
+    (orElse (andThen (item 5 0 s) λ x. readBoth (readExpr n) items or (x .1))
+    (orElse (andThen (item 6 0 s) λ x. readBoth (readExpr n) items except (x .1))
+    (andThen (item 7 0 s) λ x. some (always, x .1)))))
+
+-- the most items that an expression may have
+unfoldable pub exprLimit : ℕ
+exprLimit = 31
+
+-- a clause: an expression of 1 to 31 items
+unfoldable pub readClause : Reader (Expr (List ℕ))
+readClause s = readExpr exprLimit exprLimit s
+
+-- a schema: an item 02, then create, detach and consequent
+unfoldable pub readSchema : Reader SchemaItems
+readSchema s =
+    andThen (item 2 4 s) λ h.
+    andThen (readClause (h .1)) λ c.
+    andThen (readClause (c .1)) λ r.
+    andThen (readClause (r .1)) λ u.
+    some (record { head = h .0; create = c .0; detach = r .0; consequent = u .0 }, u .1)
+
+-- at most 32 items 01, then at most 16 schemas
+unfoldable pub fileOf : List ℕ → TermsFile
+fileOf s =
+    let ks = many (item 1 4) 32 s in
+    let ss = many readSchema 16 (ks .1) in
+    record { kinds = ks .0; schemas = ss .0; rest = ss .1 }
+
+-- refusal 2: no item 01, no schema, or something that is neither
+unfoldable pub breaksGrammar : TermsFile → Bool
+breaksGrammar file = isEmpty (file .kinds) || isEmpty (file .schemas) || not (isEmpty (file .rest))
+
+-- an expression in bytes
+unfoldable pub exprBytes : Expr (List ℕ) → List ℕ
+exprBytes (leaf body) = 3 ∷ body
+exprBytes (and a b) = 4 ∷ (exprBytes a ++ exprBytes b)
+exprBytes (or a b) = 5 ∷ (exprBytes a ++ exprBytes b)
+exprBytes (except a b) = 6 ∷ (exprBytes a ++ exprBytes b)
+exprBytes always = 7 ∷ []
+
+-- a schema in bytes
+unfoldable pub schemaBytes : SchemaItems → List ℕ
+schemaBytes x = 2 ∷ (x .head ++ (exprBytes (x .create) ++ (exprBytes (x .detach) ++ exprBytes (x .consequent))))
+
+-- terms in bytes
+unfoldable pub termsBytes : List (List ℕ) → List SchemaItems → List ℕ
+termsBytes kinds schemas = flatMap (λ body. 1 ∷ body) kinds ++ flatMap schemaBytes schemas
+
+-- an expression of 1 to 31 items whose leaves have bodies of 16 bytes
+pub record WholeExpr (x : Expr (List ℕ)) : Type 0 where
+  -- at most 31 items; there is always one
+  pub items : size x ≤ exprLimit
+  -- each leaf's body
+  pub bodies : All (λ body. length body ≡ 16) (leaves x)
+
+-- a schema with a head of 4 bytes and three whole expressions
+pub record WholeSchema (x : SchemaItems) : Type 0 where
+  -- the item 02's body
+  pub head-length : length (x .head) ≡ 4
+  -- create
+  pub create-whole : WholeExpr (x .create)
+  -- detach
+  pub detach-whole : WholeExpr (x .detach)
+  -- consequent
+  pub consequent-whole : WholeExpr (x .consequent)
+
+-- bytes that keep the grammar: the writing of 1 to 32 kinds and 1 to 16 schemas, and nothing behind them
+pub record Grammatical (s : List ℕ) : Type 0 where
+  -- the bodies of the items 01
+  pub kinds : List (List ℕ)
+  -- the schemas
+  pub schemas : List SchemaItems
+  -- 1 to 32 items 01
+  pub kinds-count : (1 ≤ length kinds) × (length kinds ≤ 32)
+  -- 1 to 16 schemas
+  pub schemas-count : (1 ≤ length schemas) × (length schemas ≤ 16)
+  -- bodies of 4 bytes
+  pub kinds-whole : All (λ body. length body ≡ 4) kinds
+  -- whole schemas
+  pub schemas-whole : All WholeSchema schemas
+  -- nothing else stands in the bytes
+  pub bytes : s ≡ termsBytes kinds schemas

@@ -1,0 +1,97 @@
+-- The rows of a log, of a report at a moment, and the entries of a standing.
+-- Document 01, 'Calls', 4 and 5. Assumes nothing: these are definitions.
+use Prim.Native.Nat.{ℕ}
+use mathlib.Core.Bool.{Bool, true, false, cond, _&&_}
+use mathlib.Core.List.{List, [], _∷_, flatMap}
+use mathlib.Core.Option.{Option, none, some}
+use lib.Dec.{ltb, eqb}
+use lib.ListN.{length}
+use Rattle.model.specs.declared.Time.{Time}
+use Rattle.model.specs.declared.Time.the-variants.{At, Never}
+use Rattle.model.specs.declared.Stage.{Stage}
+use Rattle.model.specs.declared.Stage.the-variants.{Created, Detached, Expired, Discharged, Violated}
+use Rattle.model.specs.declared.Entries.{Entries}
+use Rattle.model.specs.Time.{before}
+use Rattle.model.specs.Stages.{stages}
+use Rattle.model.specs.Lists.{numbersFrom}
+use Rattle.model.specs.Terms.{Terms, schemaAt}
+use Rattle.model.specs.Log.{Record, Log, valueOf, keyOf}
+use Rattle.model.specs.Meaning.{time}
+
+-- a row of a report
+pub record Row : Type 0 where
+  -- the stage
+  pub stage : Stage
+  -- the schema's number
+  pub schema : ℕ
+  -- the subject's key
+  pub key : ℕ
+  -- the privileged party
+  pub privileged : ℕ
+  -- the liable party
+  pub liable : ℕ
+  -- since which minute
+  pub time : ℕ
+
+-- the row of a subject's stage at the minute t
+unfoldable pub rowOf : Terms → ℕ → Record → Stage → ℕ → Row
+rowOf terms j subject s t = record {
+  stage = s;
+  schema = j;
+  key = keyOf terms subject;
+  privileged = valueOf terms subject (schemaAt terms j .privileged);
+  liable = valueOf terms subject (schemaAt terms j .liable);
+  time = t;
+}
+
+-- one row where there is a time, else none
+unfoldable pub rowAt : (ℕ → Row) → Time → List Row
+rowAt f (At t) = f t ∷ []
+rowAt f Never = []
+
+-- whether a record is a subject of schema j
+unfoldable pub isSubject : Terms → ℕ → Record → Bool
+isSubject terms j r = eqb (r .kind) (schemaAt terms j .subject)
+
+-- the rows of a record under schema j, in the order of the stages: none if it is no subject
+unfoldable pub subjectRows : Terms → Log → ℕ → Record → List Row
+subjectRows terms log j r = elim (isSubject terms j r) [
+  | true ↦ flatMap (λ s. rowAt (rowOf terms j r s) (time terms log s j r)) stages
+  | false ↦ []
+]
+
+-- all timed rows of a log: for each schema, each subject in log order, each stage 1 to 5
+unfoldable pub timedRows : Terms → Log → List Row
+timedRows terms log = flatMap (λ j. flatMap (subjectRows terms log j) log) (numbersFrom 0 (length (terms .schemas)))
+
+-- rows timed m or later are struck out; the others keep their order
+unfoldable pub strike : {A : Type 0} → (A → ℕ) → ℕ → List A → List A
+strike timed m [] = []
+strike timed m (x ∷ rows) = cond (ltb (timed x) m) (x ∷ strike timed m rows) (strike timed m rows)
+
+-- the rows of a report at the moment m: those timed before it
+unfoldable pub reportRows : Terms → Log → ℕ → List Row
+reportRows terms log m = strike (λ (x : Row). x .time) m (timedRows terms log)
+
+-- the first record that passes a test
+unfoldable pub find : (Record → Bool) → Log → Option Record
+find p [] = none
+find p (r ∷ log) = cond (p r) (some r) (find p log)
+
+-- the subject of schema j with a key, stamped before the moment
+unfoldable pub subjectOf : Terms → Log → ℕ → ℕ → ℕ → Option Record
+subjectOf terms log j key m = find (λ r. isSubject terms j r && eqb (keyOf terms r) key && ltb (r .stamp) m) log
+
+-- five entries not yet
+unfoldable pub notYet : Entries
+notYet = record { created = Never; detached = Never; expired = Never; discharged = Never; violated = Never }
+
+-- a subject's five entries: each stage's time where it is before the moment, else not yet
+unfoldable pub entriesOf : Terms → Log → ℕ → ℕ → Record → Entries
+entriesOf terms log m j subject = record {
+  created = before m (time terms log Created j subject);
+  detached = before m (time terms log Detached j subject);
+  expired = before m (time terms log Expired j subject);
+  discharged = before m (time terms log Discharged j subject);
+  violated = before m (time terms log Violated j subject);
+}
