@@ -10,9 +10,6 @@ use borrow.Author.Tests.{leb-true}
 use Rattle.model.specs.declared.Time.{Time}
 use Rattle.model.specs.declared.Time.the-variants.{At, Never}
 use Rattle.model.specs.declared.Stage.{Stage}
-use Rattle.model.specs.declared.Stage.the-variants.{Created, Detached, Expired, Discharged, Violated}
-use Rattle.model.specs.declared.NormType.{NormType}
-use Rattle.model.specs.declared.NormType.the-variants.{Commitment, Authorization, Prohibition, Power}
 use Rattle.model.specs.declared.Event.{Event}
 use Rattle.model.specs.declared.Event.the-variants.{Kind, StageOf}
 use Rattle.model.specs.declared.Bound.{Bound}
@@ -23,56 +20,27 @@ use Rattle.model.specs.Time.{laterOf, before, cut, lastMinute}
 use Rattle.model.specs.Stages.{stages}
 use Rattle.model.specs.Terms.{Terms, Expr, leaf, and, or, except, always, kindOf, rank}
 use Rattle.model.specs.Log.{Record, Log, correlate}
-use Rattle.model.specs.Meaning.{StageTimes, cited, earliest, Edge, edge, endless, reached, timeBy, happening, Times, andOf, orOf, exceptOf, first, firstWithin, known, leafOccurrence, failureAt, leafFailure, timesOf, stageFrom, stageTime, timesWithin, time}
+use Rattle.model.specs.Meaning.{StageTimes, cited, earliest, Edge, edge, endless, reached, timeBy, happening, first, firstWithin, known, leafOccurrence, failureAt, leafFailure, timesOf, stageTime, timesWithin, time}
 use Rattle.model.specs.Rows.{Row, rowOf, rowAt, isSubject, subjectRows, timedRows}
 use Rattle.model.proofs.TimeLaws.{before-lt, before-le, Side, early, late, side, before-later, before-earlier, before-onceKnown, before-ifNever, before-never}
 use Rattle.model.proofs.AllLaws.{all-flatMap, all-each}
+use Rattle.model.proofs.RelatedTimes.{Kept, Related, and-related, or-related, except-related, stage-related}
 use Rattle.model.proofs.EdgeLaws.{before-fromEdge, before-beforeEdge}
 
 -- the stamps of a log are at most the last minute
 abbrev pub StampsFit : Log → Type 0
 StampsFit log = All (λ (r : Record). r .stamp ≤ lastMinute) log
 
--- both times of a clause are let through by m
-record Fit (m : ℕ) (x : Times) : Type 0 where
-  occurs-fits : before m (x .occurs) ≡ x .occurs
-  fails-fits : before m (x .fails) ≡ x .fails
+-- a time that m lets through
+abbrev Fits : ℕ → Time → Time → Type 0
+Fits m a b = before m a ≡ b
 
-module _ (m : ℕ) where
-  and-fits : (a b : Times) → Fit m a → Fit m b → Fit m (andOf a b)
-  unfolding andOf
-  and-fits a b p q = record {
-    occurs-fits = simp (before-later, p .occurs-fits, q .occurs-fits);
-    fails-fits = simp (before-earlier, p .fails-fits, q .fails-fits);
-  }
-
-  or-fits : (a b : Times) → Fit m a → Fit m b → Fit m (orOf a b)
-  unfolding orOf
-  or-fits a b p q = record {
-    occurs-fits = simp (before-earlier, p .occurs-fits, q .occurs-fits);
-    fails-fits = simp (before-later, p .fails-fits, q .fails-fits);
-  }
-
-  except-fits : (a b : Times) → Fit m a → Fit m b → Fit m (exceptOf a b)
-  unfolding exceptOf
-  except-fits a b p q = record {
-    occurs-fits = simp (before-later, p .occurs-fits, q .fails-fits);
-    fails-fits = simp (before-earlier, p .fails-fits, q .occurs-fits);
-  }
-
-  stageFrom-fits : (s : Stage) (type : NormType) (c r u : Times) → Fit m c → Fit m r → Fit m u → before m (stageFrom s type c r u) ≡ stageFrom s type c r u
-  unfolding stageFrom
-  stageFrom-fits Created type c r u p q v = p .occurs-fits
-  stageFrom-fits Detached type c r u p q v = and-fits c r p q .occurs-fits
-  stageFrom-fits Expired type c r u p q v = except-fits c r p q .occurs-fits
-  stageFrom-fits Discharged Commitment c r u p q v = or-fits _ _ (and-fits c u p v) (and-fits r u q v) .occurs-fits
-  stageFrom-fits Discharged Authorization c r u p q v = and-fits _ u (and-fits c r p q) v .occurs-fits
-  stageFrom-fits Discharged Prohibition c r u p q v = except-fits _ u (and-fits c r p q) v .occurs-fits
-  stageFrom-fits Discharged Power c r u p q v = and-fits _ u (and-fits c r p q) v .occurs-fits
-  stageFrom-fits Violated Commitment c r u p q v = except-fits _ u (and-fits c r p q) v .occurs-fits
-  stageFrom-fits Violated Authorization c r u p q v = before-never m
-  stageFrom-fits Violated Prohibition c r u p q v = and-fits _ u (and-fits c r p q) v .occurs-fits
-  stageFrom-fits Violated Power c r u p q v = before-never m
+fits-kept : (m : ℕ) → Kept (Fits m)
+fits-kept m = record {
+  later = λ p q. simp (before-later, p, q);
+  earlier = λ p q. simp (before-earlier, p, q);
+  never = before-never m;
+}
 
 -- a stage's times that m lets through, for subjects whose stamps fit
 abbrev StagesFit : ℕ → StageTimes → Type 0
@@ -130,23 +98,20 @@ module _ (m : ℕ) (past : lastMinute < m) where
     unfolding failureAt
     failureAt-fits lower u e = simp (before-ifNever, before-onceKnown, before-never, known-fits, reached-fits)
 
-    timesOf-fits : (x : Expr Leaf) → Fit m (timesOf times terms log subject x)
+    timesOf-fits : (x : Expr Leaf) → Related (Fits m) (timesOf times terms log subject x) (timesOf times terms log subject x)
     unfolding timesOf leafOccurrence leafFailure
-    timesOf-fits (leaf x) = record {
-      occurs-fits = simp (before-onceKnown, known-fits, within-fits);
-      fails-fits = simp (before-onceKnown, known-fits, failureAt-fits);
-    }
-    timesOf-fits (and a b) = and-fits m _ _ (timesOf-fits a) (timesOf-fits b)
-    timesOf-fits (or a b) = or-fits m _ _ (timesOf-fits a) (timesOf-fits b)
-    timesOf-fits (except a b) = except-fits m _ _ (timesOf-fits a) (timesOf-fits b)
-    timesOf-fits always = record { occurs-fits = before-lt m 0 (omega arith); fails-fits = before-never m }
+    timesOf-fits (leaf x) = (simp (before-onceKnown, known-fits, within-fits), simp (before-onceKnown, known-fits, failureAt-fits))
+    timesOf-fits (and a b) = and-related (Fits m) (fits-kept m) _ _ _ _ (timesOf-fits a) (timesOf-fits b)
+    timesOf-fits (or a b) = or-related (Fits m) (fits-kept m) _ _ _ _ (timesOf-fits a) (timesOf-fits b)
+    timesOf-fits (except a b) = except-related (Fits m) (fits-kept m) _ _ _ _ (timesOf-fits a) (timesOf-fits b)
+    timesOf-fits always = (before-lt m 0 (omega arith), before-never m)
 
   stageTime-fits : (times : StageTimes) → StagesFit m times → (terms : Terms) (log : Log) → StampsFit log → StagesFit m (stageTime times terms log)
   unfolding stageTime
   stageTime-fits times fits terms log log-fits s j r h =
-      before-later m _ _ ∙ ap₂ laterOf (before-lt m (r .stamp) (omega arith)) (stageFrom-fits m s _ _ _ _ (clause _ _) (clause _ _) (clause _ _))
+      before-later m _ _ ∙ ap₂ laterOf (before-lt m (r .stamp) (omega arith)) (stage-related (Fits m) (fits-kept m) _ _ _ _ _ _ (clause _ _) (clause _ _) (clause _ _) s _)
     where
-      clause : (k : ℕ) (x : Expr Leaf) → Fit m (timesOf (cited k times) terms log r x)
+      clause : (k : ℕ) (x : Expr Leaf) → Related (Fits m) (timesOf (cited k times) terms log r x) (timesOf (cited k times) terms log r x)
       clause k x = timesOf-fits (cited k times) (cited-fits times fits k) terms log log-fits r x
 
   timesWithin-fits : (terms : Terms) (log : Log) → StampsFit log → (n : ℕ) → StagesFit m (timesWithin terms log n)

@@ -1,10 +1,12 @@
 -- Proofs over the definitions.
 pub mod TimeLaws
 pub mod EdgeLaws
+pub mod RelatedTimes
 pub mod AllLaws
 pub mod StrikeLaws
 pub mod NumberLaws
 pub mod Reading
+pub mod GrammarLaws
 pub mod RecordLaws
 pub mod LogLaws
 pub mod RowBytesLaws

@@ -13,9 +13,6 @@ use borrow.Author.Tests.{ltb-false}
 use Rattle.model.specs.declared.Time.{Time}
 use Rattle.model.specs.declared.Time.the-variants.{Never}
 use Rattle.model.specs.declared.Stage.{Stage}
-use Rattle.model.specs.declared.Stage.the-variants.{Created, Detached, Expired, Discharged, Violated}
-use Rattle.model.specs.declared.NormType.{NormType}
-use Rattle.model.specs.declared.NormType.the-variants.{Commitment, Authorization, Prohibition, Power}
 use Rattle.model.specs.declared.Event.{Event}
 use Rattle.model.specs.declared.Event.the-variants.{Kind, StageOf}
 use Rattle.model.specs.declared.Bound.{Bound}
@@ -25,8 +22,9 @@ use Rattle.model.specs.Time.{laterOf, earlierOf, before}
 use Rattle.model.specs.Terms.{Terms, Expr, leaf, and, or, except, always, kindOf, schemaAt, rank}
 use Rattle.model.specs.Log.{Record, Log, correlate}
 use Rattle.model.specs.Rows.{strike}
-use Rattle.model.specs.Meaning.{StageTimes, cited, earliest, Edge, edge, endless, fromEdge, beforeEdge, reached, timeBy, happening, Times, andOf, orOf, exceptOf, first, firstWithin, known, leafOccurrence, failureAt, leafFailure, timesOf, stageFrom, stageTime, timesWithin, time}
+use Rattle.model.specs.Meaning.{StageTimes, cited, earliest, Edge, edge, endless, fromEdge, beforeEdge, reached, timeBy, happening, first, firstWithin, known, leafOccurrence, failureAt, leafFailure, timesOf, stageTime, timesWithin, time}
 use Rattle.model.proofs.TimeLaws.{Side, early, late, side, before-le, before-later, before-earlier, before-onceKnown, before-before, before-cut, before-never, before-ifNever, ifNever-never, onceKnown-never}
+use Rattle.model.proofs.RelatedTimes.{Kept, Related, and-related, or-related, except-related, stage-related}
 use Rattle.model.proofs.EdgeLaws.{before-fromEdge, before-beforeEdge, never-within}
 
 -- the records of a log that are stamped before m, in log order
@@ -95,23 +93,16 @@ edgeSide m (edge u) = go (side m u)
     go (late h) = far (edge u) (before-cut m u h)
 edgeSide m endless = far endless refl
 
--- occurrence and failure are the same before m
-abbrev SameTimes : ℕ → Times → Times → Type 0
-SameTimes m a b = (before m (a .occurs) ≡ before m (b .occurs)) × (before m (a .fails) ≡ before m (b .fails))
+-- two times are the same before m
+abbrev pub Same : ℕ → Time → Time → Type 0
+Same m a b = before m a ≡ before m b
 
--- the connectives keep what is the same before m
-module _ (m : ℕ) (a a′ b b′ : Times) (p : SameTimes m a a′) (q : SameTimes m b b′) where
-  and-same : SameTimes m (andOf a b) (andOf a′ b′)
-  unfolding andOf
-  and-same = (simp (before-later, p .0, q .0), simp (before-earlier, p .1, q .1))
-
-  or-same : SameTimes m (orOf a b) (orOf a′ b′)
-  unfolding orOf
-  or-same = (simp (before-earlier, p .0, q .0), simp (before-later, p .1, q .1))
-
-  except-same : SameTimes m (exceptOf a b) (exceptOf a′ b′)
-  unfolding exceptOf
-  except-same = (simp (before-later, p .0, q .1), simp (before-earlier, p .1, q .0))
+same-kept : (m : ℕ) → Kept (Same m)
+same-kept m = record {
+  later = λ p q. simp (before-later, p, q);
+  earlier = λ p q. simp (before-earlier, p, q);
+  never = refl;
+}
 
 module _ (m : ℕ) (terms : Terms) (subject : Record) (times times′ : StageTimes) (log log′ : Log)
     (late-times : LateStages m times) (late-times′ : LateStages m times′)
@@ -168,35 +159,13 @@ module _ (m : ℕ) (terms : Terms) (subject : Record) (times times′ : StageTim
   leafFailure-same x = simp (before-onceKnown, known-same, failureAt-same)
 
   -- expressions
-  pub times-same : (x : Expr Leaf) → SameTimes m (timesOf times terms log subject x) (timesOf times′ terms log′ subject x)
+  pub times-same : (x : Expr Leaf) → Related (Same m) (timesOf times terms log subject x) (timesOf times′ terms log′ subject x)
   unfolding timesOf
   times-same (leaf x) = (leafOccurrence-same x, leafFailure-same x)
-  times-same (and a b) = and-same m _ _ _ _ (times-same a) (times-same b)
-  times-same (or a b) = or-same m _ _ _ _ (times-same a) (times-same b)
-  times-same (except a b) = except-same m _ _ _ _ (times-same a) (times-same b)
+  times-same (and a b) = and-related (Same m) (same-kept m) _ _ _ _ (times-same a) (times-same b)
+  times-same (or a b) = or-related (Same m) (same-kept m) _ _ _ _ (times-same a) (times-same b)
+  times-same (except a b) = except-related (Same m) (same-kept m) _ _ _ _ (times-same a) (times-same b)
   times-same always = (refl, refl)
-
--- what brings a stage about is the same before m
-stageFrom-same : (m : ℕ) (c c′ r r′ u u′ : Times) → SameTimes m c c′ → SameTimes m r r′ → SameTimes m u u′
-    → (s : Stage) (type : NormType) → before m (stageFrom s type c r u) ≡ before m (stageFrom s type c′ r′ u′)
-unfolding stageFrom
-stageFrom-same m c c′ r r′ u u′ p q v = go
-  where
-    cr : SameTimes m (andOf c r) (andOf c′ r′)
-    cr = and-same m c c′ r r′ p q
-
-    go : (s : Stage) (type : NormType) → before m (stageFrom s type c r u) ≡ before m (stageFrom s type c′ r′ u′)
-    go Created type = p .0
-    go Detached type = cr .0
-    go Expired type = except-same m c c′ r r′ p q .0
-    go Discharged Commitment = or-same m _ _ _ _ (and-same m c c′ u u′ p v) (and-same m r r′ u u′ q v) .0
-    go Discharged Authorization = and-same m _ _ u u′ cr v .0
-    go Discharged Prohibition = except-same m _ _ u u′ cr v .0
-    go Discharged Power = and-same m _ _ u u′ cr v .0
-    go Violated Commitment = except-same m _ _ u u′ cr v .0
-    go Violated Authorization = refl
-    go Violated Prohibition = and-same m _ _ u u′ cr v .0
-    go Violated Power = refl
 
 -- a guard on citations takes late stages to late ones, and the same to the same
 cited-late : (m k : ℕ) (times : StageTimes) → LateStages m times → LateStages m (cited k times)
@@ -238,10 +207,10 @@ module _ (m : ℕ) (terms : Terms) (log log′ : Log) (alike : recordsBefore m l
   timesWithin-same (suc n) s j r =
       simp before-later
       (ap₂ laterOf refl
-      (stageFrom-same m _ _ _ _ _ _ (clause (timesWithin-same n) (3 * j) _) (clause (timesWithin-same n) (3 * j + 1) _) (clause (timesWithin-same n) (3 * j + 2) _) s (schemaAt terms j .type)))
+      (stage-related (Same m) (same-kept m) _ _ _ _ _ _ (clause (timesWithin-same n) (3 * j) _) (clause (timesWithin-same n) (3 * j + 1) _) (clause (timesWithin-same n) (3 * j + 2) _) s (schemaAt terms j .type)))
     where
       clause : ((s : Stage) (j : ℕ) (r : Record) → before m (timesWithin terms log n s j r) ≡ before m (timesWithin terms log′ n s j r)) → (k : ℕ) (x : Expr Leaf)
-          → SameTimes m (timesOf (cited k (timesWithin terms log n)) terms log r x) (timesOf (cited k (timesWithin terms log′ n)) terms log′ r x)
+          → Related (Same m) (timesOf (cited k (timesWithin terms log n)) terms log r x) (timesOf (cited k (timesWithin terms log′ n)) terms log′ r x)
       clause same k =
           times-same m terms r (cited k (timesWithin terms log n)) (cited k (timesWithin terms log′ n)) log log′
           (cited-late m k _ (timesWithin-late m terms log n)) (cited-late m k _ (timesWithin-late m terms log′ n)) (cited-same m k _ _ same) alike
