@@ -18,13 +18,8 @@ use Rattle.model.specs.Lists.{isEmpty, All}
 use Rattle.model.specs.Bytes.{Reader, andThen, many, item}
 use Rattle.model.specs.Terms.{Expr, leaf, and, or, except, always, leaves}
 use Rattle.model.specs.Grammar.{SchemaItems, TermsFile, size, readBoth, readExpr, exprLimit, readClause, readSchema, fileOf, breaksGrammar, exprBytes, schemaBytes, termsBytes, WholeExpr, WholeSchema, Grammatical}
-use Rattle.model.proofs.AllLaws.{all-append}
+use Rattle.model.proofs.ListLaws.{all-append, all-split}
 use Rattle.model.proofs.Reading.{none-some, found-eq, andThen-cases, orElse-cases, item-sound, item-whole, many-bytes, many-all, many-count, many-whole}
-
--- what holds of each element of two lists one behind the other holds in both
-all-split : {A : Type 0} (P : A → Type 0) (xs ys : List A) → All P (xs ++ ys) → All P xs × All P ys
-all-split P [] ys h = (tt, h)
-all-split P (x ∷ xs) ys h = let rest = all-split P xs ys (h .1) in ((h .0, rest .0), rest .1)
 
 -- an expression has at least one item, so that the grammar's '1 to 31' asks for no test of its own
 pub size-positive : {A : Type 0} (x : Expr A) → 1 ≤ size x

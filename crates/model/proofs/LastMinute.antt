@@ -23,7 +23,7 @@ use Rattle.model.specs.Log.{Record, Log, correlate}
 use Rattle.model.specs.Meaning.{StageTimes, cited, earliest, Edge, edge, endless, reached, timeBy, happening, first, firstWithin, known, leafOccurrence, failureAt, leafFailure, timesOf, stageTime, timesWithin, time}
 use Rattle.model.specs.Rows.{Row, rowOf, rowAt, isSubject, subjectRows, timedRows}
 use Rattle.model.proofs.TimeLaws.{before-lt, before-le, Side, early, late, side, before-later, before-earlier, before-onceKnown, before-ifNever, before-never}
-use Rattle.model.proofs.AllLaws.{all-flatMap, all-each}
+use Rattle.model.proofs.ListLaws.{all-flatMap, all-each}
 use Rattle.model.proofs.RelatedTimes.{Kept, Related, and-related, or-related, except-related, stage-related}
 use Rattle.model.proofs.EdgeLaws.{before-fromEdge, before-beforeEdge}
 
@@ -124,6 +124,18 @@ module _ (m : ℕ) (past : lastMinute < m) where
       → before m (time terms log s j r) ≡ time terms log s j r
   unfolding time
   time-fits terms log log-fits s j r h = timesWithin-fits terms log log-fits (suc (rank s j)) s j r h
+
+-- So a stage has no time, or one that is at most the last minute.
+pub time-at-most : (terms : Terms) (log : Log) → StampsFit log → (s : Stage) (j : ℕ) (r : Record) → r .stamp ≤ lastMinute
+    → (t : ℕ) → time terms log s j r ≡ At t → t ≤ lastMinute
+time-at-most terms log log-fits s j r h t e = go (side (suc lastMinute) t)
+  where
+    same : before (suc lastMinute) (time terms log s j r) ≡ time terms log s j r
+    same = time-fits (suc lastMinute) (omega arith) terms log log-fits s j r h
+
+    go : Side (suc lastMinute) t → t ≤ lastMinute
+    go (early k) = omega arith
+    go (late k) = let z : _≡_ {A = ℕ} 0 1 = cc (same, e, before-le (suc lastMinute) t k) in omega arith
 
 -- a row's time is at most the last minute
 abbrev pub RowFits : Row → Type 0

@@ -1,18 +1,25 @@
--- Proofs over the definitions.
+-- Proofs over the definitions. Laws first, the theorems they serve behind them.
+pub mod BoolLaws
+pub mod ListLaws
+pub mod MemberLaws
 pub mod TimeLaws
 pub mod EdgeLaws
+pub mod BoundLaws
 pub mod RelatedTimes
-pub mod AllLaws
 pub mod StrikeLaws
 pub mod NumberLaws
+pub mod MaskLaws
 pub mod Reading
 pub mod GrammarLaws
 pub mod RecordLaws
 pub mod LogLaws
 pub mod RowBytesLaws
-pub mod WriteLaws
 pub mod RefusalLaws
+pub mod WriteLaws
+pub mod Equation
 pub mod LastMinute
+pub mod RowLaws
+pub mod StandingLaws
 pub mod SameBefore
 pub mod RowsSame
 pub mod Lasts

@@ -1,13 +1,15 @@
 -- Numbers in bytes, low byte first: what is written is read back, for every width w. Assumes nothing.
-use Prim.Native.Nat.{ℕ, zero, suc, _+_, _*_, _/_, _%_, _^_, _≤_, _<_}
-use native.Mathlib.Nat.{pow-suc}
+use Prim.Native.Nat.{ℕ, zero, suc, _+_, _*_, _/_, _^_, _≤_, _<_}
+use native.Mathlib.Nat.{pow-suc, pow-le-pow-right, lt-of-lt-of-le, min-le-left}
 use native.Mathlib.Omega.{arith}
 use mathlib.Core.Path.{_≡_, refl, ap, ap₂}
 use mathlib.Core.List.{List, [], _∷_}
-use lib.ListN.{length, take, drop}
+use lib.Dec.{lit<}
+use lib.ListN.{length, take, length-take}
 use lib.Seq.{length-take-le}
 use Rattle.model.specs.Lists.{All}
 use Rattle.model.specs.Bytes.{bytesOf, numberOf}
+use Rattle.model.proofs.ListLaws.{all-take}
 
 -- a number of w bytes takes w bytes
 pub bytes-length : (w n : ℕ) → length (bytesOf w n) ≡ w
@@ -42,17 +44,11 @@ unfolding numberOf
 number-bound [] h = omega arith
 number-bound (b ∷ s) h = rw (pow-suc 256 (length s)) (omega (arith, number-bound s (h .1)))
 
--- what holds of each element holds of each at the front, and of each behind
-pub all-take : {A : Type 0} (P : A → Type 0) (n : ℕ) (s : List A) → All P s → All P (take n s)
-all-take P zero s h = tt
-all-take P (suc n) [] h = tt
-all-take P (suc n) (x ∷ s) h = (h .0, all-take P n s (h .1))
-
-pub all-drop : {A : Type 0} (P : A → Type 0) (n : ℕ) (s : List A) → All P s → All P (drop n s)
-all-drop P zero s h = h
-all-drop P (suc n) [] h = tt
-all-drop P (suc n) (x ∷ s) h = all-drop P n s (h .1)
-
 -- a number that is read at the front of bytes is written back as it stood there
 pub front-bytes : (w : ℕ) (s : List ℕ) → w ≤ length s → All (λ b. b < 256) s → bytesOf w (numberOf (take w s)) ≡ take w s
 front-bytes w s long h = rw (length-take-le w s long) at (number-bytes (take w s) (all-take (λ b. b < 256) w s h))
+
+-- and it fits its width
+pub front-fits : (w : ℕ) (s : List ℕ) → All (λ b. b < 256) s → numberOf (take w s) < 256 ^ w
+front-fits w s h =
+    lt-of-lt-of-le (number-bound (take w s) (all-take (λ b. b < 256) w s h)) (pow-le-pow-right (lit< tt) (rw length-take (min-le-left w (length s))))

@@ -4,14 +4,14 @@ use Prim.Native.Nat.{ℕ, zero, suc, _+_, _*_, _≤_, _<_}
 use native.Mathlib.Omega.{arith}
 use mathlib.Core.Path.{_≡_, refl, ap, sym, subst}
 use mathlib.Core.Logic.{_↔_, _⊎_, inl, inr, Iff·trans, Iff·and, Iff·rfl}
-use mathlib.Core.Bool.{Bool, true, false, cond, not, _&&_, _||_}
+use mathlib.Core.Bool.{Bool, true, false, cond, not, _&&_, _||_, true≢false, false≢true}
 use mathlib.Core.List.{List, [], _∷_, _++_, List·Memᴰ, List·Memᴰ·not-nil, List·Memᴰ·cases-cons, List·Memᴰ·head, Memᴰ·append-right}
 use lib.Dec.{leb, ltb}
 use lib.ListN.{length, take}
 use borrow.Author.Tests.{ltb-true}
 use Rattle.model.specs.declared.Entries.{Entries}
 use Rattle.model.specs.Lists.{isEmpty, anyOf, All}
-use Rattle.model.specs.Log.{Record, sameKey}
+use Rattle.model.specs.Log.{sameKey}
 use Rattle.model.specs.Grammar.{fileOf, breaksGrammar}
 use Rattle.model.specs.Fields.{fieldWrong, citationWrong, unsharedEvent}
 use Rattle.model.specs.Records.{recordFrom, readLog, stampsFall, keyRepeats, lastStamp, rowLength}
@@ -29,10 +29,7 @@ refusal-none [] n = (λ e. tt, λ e. refl)
 refusal-none (c ∷ checks) n = go (c .holds) (refusal-none checks (n .1))
   where
     go : (b : Bool) → (refusal checks ≡ 0) ↔ NoneHolds checks → (cond b (c .number) (refusal checks) ≡ 0) ↔ ((b ≡ false) × NoneHolds checks)
-    go true ih = (λ e. absurd (omega arith), λ e. absurd (no (e .0)))
-      where
-        no : true ≡ false → ⊥
-        no e = let z : _≡_ {A = ℕ} 0 1 = cc in omega arith
+    go true ih = (λ e. absurd (omega arith), λ e. absurd (true≢false (e .0)))
     go false ih = (λ e. (refl, ih .0 e), λ e. ih .1 (e .1))
 
 -- the first check that holds in a list, with its number n
@@ -56,7 +53,7 @@ pub record FirstThatHolds (checks : List Check) (n : ℕ) : Type 0 where
 pub refusal-first : (checks : List Check) (n : ℕ) → refusal checks ≡ n → 1 ≤ n → FirstThatHolds checks n
 unfolding refusal
 refusal-first [] n e h = absurd (omega arith)
-refusal-first (c ∷ checks) n e h = go (c .holds) refl (e) (λ e. refusal-first checks n e h)
+refusal-first (c ∷ checks) n e h = go (c .holds) refl e (λ e. refusal-first checks n e h)
   where
     go : (b : Bool) → c .holds ≡ b → cond b (c .number) (refusal checks) ≡ n → (refusal checks ≡ n → FirstThatHolds checks n) → FirstThatHolds (c ∷ checks) n
     go true p e ih = record { ahead = []; check = c; behind = checks; place = refl; numbered = e; holds = p; none-ahead = tt }
@@ -82,7 +79,7 @@ rises-parts n c checks e = go (ltb n (c .number)) refl e
   where
     go : (b : Bool) → ltb n (c .number) ≡ b → (b && risesFrom (c .number) checks) ≡ true → (n < c .number) × (risesFrom (c .number) checks ≡ true)
     go true p e = (ltb-true n (c .number) p, e)
-    go false p e = absurd (let z : _≡_ {A = ℕ} 0 1 = cc in omega arith)
+    go false p e = absurd (false≢true e)
 
 -- the numbers of a list that rises from n are above n
 pub rises-above : (n m : ℕ) (checks : List Check) → m ≤ n → risesFrom n checks ≡ true → All (λ (c : Check). suc m ≤ c .number) checks
@@ -208,6 +205,7 @@ none-append (c ∷ a) b =
     let ih = none-append a b in
     (λ h. ((h .0, ih .0 (h .1) .0), ih .0 (h .1) .1), λ h. (h .0 .0, ih .1 (h .0 .1, h .1)))
 
+-- no check of 1 to 5 holds, exactly if the terms are accepted
 terms-none : (terms : List ℕ) → NoneHolds (termsChecks terms) ↔ TermsAccepted terms
 unfolding termsChecks
 terms-none terms = (
@@ -215,6 +213,7 @@ terms-none terms = (
   λ a. (a .short, (a .grammar, (a .fields, (a .citations, (a .shared, tt))))),
 )
 
+-- no check of 1 to 9 holds, exactly if the log is accepted
 log-none : (w : ℕ) (terms log : List ℕ) (used : ℕ) → NoneHolds (logChecks w terms log used) ↔ LogAccepted w terms log used
 unfolding logChecks
 log-none w terms log used =
@@ -252,12 +251,34 @@ unfolding unlessRefused
 refused-number zero buffer o a = a
 refused-number (suc n) buffer o a = refl
 
+-- call 3 returns the number of its refusals
+pub append-number : (w : ℕ) (terms log : List ℕ) (used : ℕ) (event : List ℕ)
+    → append w terms log used event .answer .number ≡ refusal (appendChecks w terms log used event)
+unfolding append
+append-number w terms log used event = refused-number _ _ _ refl
+
+-- so does call 4
+pub report-number : (w : ℕ) (terms log : List ℕ) (used m : ℕ) (page : List ℕ)
+    → report w terms log used m page .answer .number ≡ refusal (reportChecks w terms log used m page)
+unfolding report
+report-number w terms log used m page = refused-number _ _ _ refl
+
+-- so does call 5
+pub standing-number : (w : ℕ) (terms log : List ℕ) (used schema key m : ℕ)
+    → standing w terms log used schema key m .number ≡ refusal (standingChecks w terms log used schema key m)
+unfolding standing standingAs
+standing-number w terms log used schema key m = go _ _
+  where
+    go : (n : ℕ) (e : Entries) → standingAs n e .number ≡ n
+    go zero e = refl
+    go (suc n) e = refl
+
 -- call 3 accepts exactly the events to which none of 1 to 9 and 11 to 14 applies
 pub append-accepted : (w : ℕ) (terms log : List ℕ) (used : ℕ) (event : List ℕ)
     → Accepted (append w terms log used event) ↔ AppendAccepted w terms log used event
-unfolding append appendChecks
+unfolding appendChecks
 append-accepted w terms log used event =
-    rw refused-number (Iff·trans (beyond-log w terms log used _ (rising w terms log used .append-rises event)) (
+    rw append-number (Iff·trans (beyond-log w terms log used _ (rising w terms log used .append-rises event)) (
       λ h. record { log-ok = h .0; one-record = h .1 .0; not-earlier = h .1 .1 .0; new = h .1 .1 .1 .0; event-fits = h .1 .1 .1 .1 .0 },
       λ a. (a .log-ok, (a .one-record, (a .not-earlier, (a .new, (a .event-fits, tt))))),
     ))
@@ -265,20 +286,14 @@ append-accepted w terms log used event =
 -- call 4 accepts exactly the reports to which none of 1 to 10 applies
 pub report-accepted : (w : ℕ) (terms log : List ℕ) (used m : ℕ) (page : List ℕ) → Accepted (report w terms log used m page)
     ↔ (LogAccepted w terms log used × (ltb (length page) (rowLength w * length (rowsOf w terms log used m)) ≡ false))
-unfolding report reportChecks
+unfolding reportChecks
 report-accepted w terms log used m page =
-    rw refused-number (Iff·trans (beyond-log w terms log used _ (rising w terms log used .report-rises m page)) (λ h. (h .0, h .1 .0), λ a. (a .0, (a .1, tt))))
-
--- the number of a standing is the refusal's
-standing-number : (n : ℕ) (e : Entries) → standingAs n e .number ≡ n
-unfolding standingAs
-standing-number zero e = refl
-standing-number (suc n) e = refl
+    rw report-number (Iff·trans (beyond-log w terms log used _ (rising w terms log used .report-rises m page)) (λ h. (h .0, h .1 .0), λ a. (a .0, (a .1, tt))))
 
 -- call 5 accepts exactly the questions to which none of 1 to 9, 15 and 16 applies
 pub standing-accepted : (w : ℕ) (terms log : List ℕ) (used schema key m : ℕ) → (standing w terms log used schema key m .number ≡ 0)
     ↔ StandingAccepted w terms log used schema key m
-unfolding standing standingChecks
+unfolding standingChecks
 standing-accepted w terms log used schema key m =
     rw standing-number (Iff·trans (beyond-log w terms log used _ (rising w terms log used .standing-rises schema key m)) (
       λ h. record { log-ok = h .0; schema-there = h .1 .0; subject-there = h .1 .1 .0 },

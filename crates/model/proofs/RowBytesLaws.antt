@@ -3,8 +3,8 @@
 use Prim.Native.Nat.{ℕ, zero, suc, _+_, _*_, _^_, _≤_, _<_}
 use native.Mathlib.Nat.{mul-suc}
 use native.Mathlib.Omega.{arith}
-use mathlib.Core.Path.{_≡_, refl, ap, sym, _∙_}
-use mathlib.Core.List.{List, [], _∷_, _++_, map, flatMap, flatten, append-assoc}
+use mathlib.Core.Path.{_≡_, refl}
+use mathlib.Core.List.{List, [], _∷_, _++_, map, flatMap, append-assoc}
 use lib.ListN.{length, take, drop, length-append}
 use lib.Seq.{take-at, drop-at, take-all}
 use Rattle.model.specs.Stages.{stageNumber}
@@ -54,9 +54,3 @@ rows-in w (x ∷ rows) t =
       drop-at (rowBytes w x) (flatMap (rowBytes w) rows ++ t) (rowLength w) (row-length w x),
       rows-in w rows t,
     )
-
--- rows in bytes, one behind another
-pub flatten-rows : (w : ℕ) (rows : List Row) → flatten (map (rowBytes w) rows) ≡ flatMap (rowBytes w) rows
-unfolding flatten flatMap
-flatten-rows w [] = refl
-flatten-rows w (x ∷ rows) = ap (λ (t : List ℕ). rowBytes w x ++ t) (flatten-rows w rows)

@@ -1,0 +1,70 @@
+-- A property of each element of a list goes through the ways in which lists are made; and lists one after another. Assumes nothing.
+use Prim.Native.Nat.{ℕ, zero, suc}
+use mathlib.Core.Path.{_≡_, refl, ap, sym}
+use mathlib.Core.List.{List, [], _∷_, _++_, map, flatMap, flatten, append-nil, append-assoc}
+use lib.ListN.{take, drop}
+use Rattle.model.specs.Lists.{All}
+
+-- Of two lists one behind the other: what holds in both.
+pub all-append : {A : Type 0} (P : A → Type 0) (a b : List A) → All P a → All P b → All P (a ++ b)
+all-append P [] b p q = q
+all-append P (x ∷ a) b p q = (p .0, all-append P a b (p .1) q)
+
+-- What holds of two lists one behind the other holds in both.
+pub all-split : {A : Type 0} (P : A → Type 0) (a b : List A) → All P (a ++ b) → All P a × All P b
+all-split P [] b h = (tt, h)
+all-split P (x ∷ a) b h = let rest = all-split P a b (h .1) in ((h .0, rest .0), rest .1)
+
+-- Of the lists that a list's elements give: what holds in each of them. Rows are made so.
+pub all-flatMap : {A B : Type 0} (P : A → Type 0) (Q : B → Type 0) (f : A → List B) → ((x : A) → P x → All Q (f x)) → (l : List A) → All P l → All Q (flatMap f l)
+unfolding flatMap
+all-flatMap P Q f h [] p = tt
+all-flatMap P Q f h (x ∷ l) p = all-append Q (f x) (flatMap f l) (h x (p .0)) (all-flatMap P Q f h l (p .1))
+
+-- What everything has, each element has.
+pub all-of : {A : Type 0} (P : A → Type 0) → ((x : A) → P x) → (l : List A) → All P l
+all-of P h [] = tt
+all-of P h (x ∷ l) = (h x, all-of P h l)
+
+-- Of the lists that a list's elements give, where nothing need be known of these elements.
+pub all-each : {A B : Type 0} (Q : B → Type 0) (f : A → List B) → ((x : A) → All Q (f x)) → (l : List A) → All Q (flatMap f l)
+all-each Q f h l = all-flatMap (λ x. All Q (f x)) Q f (λ x p. p) l (all-of (λ x. All Q (f x)) h l)
+
+-- Of a list's elements in another form.
+pub all-map : {A B : Type 0} (P : A → Type 0) (Q : B → Type 0) (f : A → B) → ((x : A) → P x → Q (f x)) → (l : List A) → All P l → All Q (map f l)
+all-map P Q f h [] p = tt
+all-map P Q f h (x ∷ l) p = (h x (p .0), all-map P Q f h l (p .1))
+
+-- What each element's property gives, each element has.
+pub all-imp : {A : Type 0} (P Q : A → Type 0) → ((x : A) → P x → Q x) → (l : List A) → All P l → All Q l
+all-imp P Q h [] p = tt
+all-imp P Q h (x ∷ l) p = (h x (p .0), all-imp P Q h l (p .1))
+
+-- Of the front and of the back of a list.
+pub all-take : {A : Type 0} (P : A → Type 0) (n : ℕ) (l : List A) → All P l → All P (take n l)
+all-take P zero l h = tt
+all-take P (suc n) [] h = tt
+all-take P (suc n) (x ∷ l) h = (h .0, all-take P n l (h .1))
+
+pub all-drop : {A : Type 0} (P : A → Type 0) (n : ℕ) (l : List A) → All P l → All P (drop n l)
+all-drop P zero l h = h
+all-drop P (suc n) [] h = tt
+all-drop P (suc n) (x ∷ l) h = all-drop P n l (h .1)
+
+-- What elements give, one after another, is their other form one after another.
+pub flatten-map : {A B : Type 0} (f : A → List B) (l : List A) → flatten (map f l) ≡ flatMap f l
+unfolding flatMap flatten
+flatten-map f [] = refl
+flatten-map f (x ∷ l) = ap (λ t. f x ++ t) (flatten-map f l)
+
+-- Lists one after another, each as it is.
+pub flatten-each : {A : Type 0} (l : List (List A)) → flatMap (λ c. c) l ≡ flatten l
+unfolding flatMap flatten
+flatten-each [] = refl
+flatten-each (c ∷ l) = ap (λ t. c ++ t) (flatten-each l)
+
+-- One more list behind the others.
+pub flatten-snoc : {A : Type 0} (l : List (List A)) (c : List A) → flatten (l ++ (c ∷ [])) ≡ flatten l ++ c
+unfolding flatten
+flatten-snoc [] c = append-nil c
+flatten-snoc (x ∷ l) c = rw (flatten-snoc l c) (sym (append-assoc x (flatten l) c))
