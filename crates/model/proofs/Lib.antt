@@ -23,4 +23,6 @@ pub mod StandingLaws
 pub mod SameBefore
 pub mod RowsSame
 pub mod Lasts
+pub mod Computes
 pub mod Sample
+pub mod Instance
