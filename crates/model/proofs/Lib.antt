@@ -11,6 +11,7 @@ pub mod NumberLaws
 pub mod MaskLaws
 pub mod Reading
 pub mod GrammarLaws
+pub mod FieldLaws
 pub mod RecordLaws
 pub mod LogLaws
 pub mod RowBytesLaws
