@@ -13,7 +13,7 @@ use Rattle.model.specs.declared.Leaf.{Leaf}
 use Rattle.model.specs.Time.{laterOf}
 use Rattle.model.specs.Terms.{Terms, Expr, schemaAt, rank}
 use Rattle.model.specs.Log.{Record, Log}
-use Rattle.model.specs.Meaning.{StageTimes, cited, Times, timesOf, stageFrom, stageTime, timesWithin, time}
+use Rattle.model.specs.Meaning.{StageTimes, cited, Times, timesOf, stageFrom, stageStep, timesWithin, stageTime}
 use Rattle.model.proofs.TimeLaws.{Side, early, late, side}
 
 -- a clause of rank k sees a stage of smaller rank as it is
@@ -49,10 +49,10 @@ stageFrom-same Discharged j type p q w = rw (p (omega arith), q (omega arith), w
 stageFrom-same Violated j type p q w = rw (p (omega arith), q (omega arith), w (omega arith))
 
 -- so it depends on stages of smaller rank alone
-pub stageTime-same : (terms : Terms) (log : Log) (times times′ : StageTimes) (s : Stage) (j : ℕ) → SameBelow (rank s j) times times′ → (subject : Record)
-    → stageTime times terms log s j subject ≡ stageTime times′ terms log s j subject
-unfolding stageTime
-stageTime-same terms log times times′ s j same subject = ap (laterOf (At (subject .stamp))) (stageFrom-same s j (schemaAt terms j .type) (clause _ _) (clause _ _) (clause _ _))
+pub stageStep-same : (terms : Terms) (log : Log) (times times′ : StageTimes) (s : Stage) (j : ℕ) → SameBelow (rank s j) times times′ → (subject : Record)
+    → stageStep times terms log s j subject ≡ stageStep times′ terms log s j subject
+unfolding stageStep
+stageStep-same terms log times times′ s j same subject = ap (laterOf (At (subject .stamp))) (stageFrom-same s j (schemaAt terms j .type) (clause _ _) (clause _ _) (clause _ _))
   where
     clause : (k : ℕ) (x : Expr Leaf) → k ≤ rank s j → timesOf (cited k times) terms log subject x ≡ timesOf (cited k times′) terms log subject x
     clause k x h = rw (cited-same k times times′ (λ s′ j′ q. same s′ j′ (omega arith)))
@@ -64,13 +64,13 @@ unfolding timesWithin
 times-stable terms log zero n′ s j p q subject = absurd (omega arith)
 times-stable terms log (suc n) zero s j p q subject = absurd (omega arith)
 times-stable terms log (suc n) (suc n′) s j p q subject =
-    stageTime-same terms log (timesWithin terms log n) (timesWithin terms log n′) s j
+    stageStep-same terms log (timesWithin terms log n) (timesWithin terms log n′) s j
     (λ s′ j′ h. times-stable terms log n n′ s′ j′ (omega arith) (omega arith)) subject
 
 -- the equation: each stage's time is what its clauses give, with these same times for the stages that they cite
 pub time-equation : (terms : Terms) (log : Log) (s : Stage) (j : ℕ) (subject : Record)
-    → time terms log s j subject ≡ stageTime (time terms log) terms log s j subject
-unfolding time timesWithin
+    → stageTime terms log s j subject ≡ stageStep (stageTime terms log) terms log s j subject
+unfolding stageTime timesWithin
 time-equation terms log s j subject =
-    stageTime-same terms log (timesWithin terms log (rank s j)) (time terms log) s j
+    stageStep-same terms log (timesWithin terms log (rank s j)) (stageTime terms log) s j
     (λ s′ j′ h. times-stable terms log (rank s j) (suc (rank s′ j′)) s′ j′ h (omega arith)) subject

@@ -5,7 +5,7 @@ use native.Mathlib.Omega.{arith}
 use mathlib.Core.Path.{_≡_, refl, ap, sym, _∙_}
 use mathlib.Core.Bool.{Bool, true, false, cond, _||_, true≢false}
 use mathlib.Core.List.{List, [], _∷_, _++_, append-nil}
-use mathlib.Core.Option.{Option, none, some}
+use mathlib.Core.Option.{Option, none, some, bind}
 use lib.Dec.{eqb, ltb}
 use lib.ListN.{length}
 use lib.Seq.{getD-append-add, drop-append-add, take-at}
@@ -17,7 +17,7 @@ use Rattle.model.specs.declared.Bound.the-variants.{Plain, Plus, Minus, 
 use Rattle.model.specs.declared.Leaf.{Leaf}
 use Rattle.model.specs.Stages.{stageNumber}
 use Rattle.model.specs.Terms.{Terms}
-use Rattle.model.specs.Bytes.{bytesOf, byteAt, numberAt, andThen}
+use Rattle.model.specs.Bytes.{bytesOf, byteAt, numberAt}
 use Rattle.model.specs.Fields.{stageEvent, eventOf, boundOf, leafOf, notZero, offsetLimit, eventWrong, boundWrong, leafWrong}
 use Rattle.model.proofs.BoolLaws.{or-false}
 use borrow.Author.Tests.{ltb-false}
@@ -80,7 +80,7 @@ event-back (StageOf Violated j) = refl
 
 -- a bound is read back
 bound-back : (b : Bound) → OffsetFits b → (t : List ℕ) → boundOf (boundBytes b ++ t) 0 ≡ some b
-unfolding boundOf boundBytes byteAt
+unfolding boundOf boundBytes byteAt bind
 bound-back (Plain n) h t = rw (offset-back 0 0 0 n t h)
 bound-back (Plus e n) h t = rw (event-back e, offset-back 1 (formOf e) (eventNumber e) n t h)
 bound-back (Minus e n) h t = rw (event-back e, offset-back 2 (formOf e) (eventNumber e) n t h)
@@ -96,7 +96,7 @@ bound-length Open = ap (λ (k : ℕ). suc (suc (suc k))) (bytes-length 4 0)
 
 -- a leaf is read back, of every event and with bounds of every sign
 pub leaf-back : (x : Leaf) → OffsetFits (x .lower) → OffsetFits (x .upper) → leafOf (leafBytes x) ≡ some x
-unfolding leafOf leafBytes byteAt
+unfolding leafOf leafBytes byteAt bind
 leaf-back x p q = rw (event-back (x .event), lower, upper)
   where
     f : ℕ
@@ -129,7 +129,7 @@ unfolding eventWrong
 event-read terms form number e = form-read form number (ltb-false 5 form (or-false _ _ e .0))
 
 bound-read : (terms : Terms) (s : List ℕ) (at : ℕ) → boundWrong terms s at ≡ false → (b : Bound) × (boundOf s at ≡ some b)
-unfolding boundWrong boundOf
+unfolding boundWrong boundOf bind
 bound-read terms s at e = go (eqb sign 0) (eqb sign 1) (eqb sign 2) (eqb sign 3) e
   where
     sign : ℕ
@@ -150,8 +150,8 @@ bound-read terms s at e = go (eqb sign 0) (eqb sign 1) (eqb sign 2) (eqb sign 3)
         (cond p2 (eventWrong terms form number || ltb offsetLimit offset)
         (cond p3 (notZero form || notZero number || notZero offset) true))) ≡ false
         → (b : Bound) × (cond p0 (some (Plain offset))
-        (cond p1 (andThen (eventOf form number) λ e. some (Plus e offset))
-        (cond p2 (andThen (eventOf form number) λ e. some (Minus e offset))
+        (cond p1 (bind (eventOf form number) λ e. some (Plus e offset))
+        (cond p2 (bind (eventOf form number) λ e. some (Minus e offset))
         (cond p3 (some Open) none))) ≡ some b)
     go true p1 p2 p3 e = (Plain offset, refl)
     go false true p2 p3 e = let ev = event-read terms form number (or-false _ _ e .0) in (Plus (ev .0) offset, rw (ev .1))
@@ -161,7 +161,7 @@ bound-read terms s at e = go (eqb sign 0) (eqb sign 1) (eqb sign 2) (eqb sign 3)
 
 -- a leaf that refusal 3 does not turn away is read: no accepted leaf stands for the expression that neither occurs nor fails
 pub leaf-read : (terms : Terms) (body : List ℕ) → leafWrong terms body ≡ false → (x : Leaf) × (leafOf body ≡ some x)
-unfolding leafWrong leafOf
+unfolding leafWrong leafOf bind
 leaf-read terms body h =
     let a = or-false _ _ h in
     let b = or-false _ _ (a .0) in

@@ -11,15 +11,15 @@ use native.Mathlib.Omega.{arith}
 use mathlib.Core.Path.{_≡_, refl}
 use mathlib.Core.Bool.{false, not, _||_, true≢false}
 use mathlib.Core.List.{List, [], _∷_, _++_, flatMap, append-assoc, append-nil}
-use mathlib.Core.Option.{none, some}
+use mathlib.Core.Option.{none, some, bind}
 use mathlib.Core.Logic.{_↔_}
 use lib.ListN.{length}
 use Rattle.model.specs.Lists.{isEmpty, All}
-use Rattle.model.specs.Bytes.{Reader, andThen, many, item}
+use Rattle.model.specs.Bytes.{Reader, many, item}
 use Rattle.model.specs.Terms.{Expr, leaf, and, or, except, always, leaves}
-use Rattle.model.specs.Grammar.{SchemaItems, TermsFile, size, readBoth, readExpr, exprLimit, readClause, readSchema, fileOf, breaksGrammar, exprBytes, schemaBytes, termsBytes, WholeExpr, WholeSchema, Grammatical}
+use Rattle.model.specs.Grammar.{SchemaItems, TermsFile, size, readBoth, readExpr, kindsLimit, schemasLimit, exprLimit, readClause, readSchema, fileOf, breaksGrammar, exprBytes, schemaBytes, termsBytes, WholeExpr, WholeSchema, Grammatical}
 use Rattle.model.proofs.ListLaws.{all-append, all-split}
-use Rattle.model.proofs.Reading.{none-some, found-eq, andThen-cases, orElse-cases, item-sound, item-whole, many-bytes, many-all, many-count, many-whole}
+use Rattle.model.proofs.Reading.{none-some, found-eq, bind-cases, orElse-cases, item-sound, item-whole, many-bytes, many-all, many-count, many-whole}
 
 -- an expression has at least one item, so that the grammar's '1 to 31' asks for no test of its own
 pub size-positive : {A : Type 0} (x : Expr A) → 1 ≤ size x
@@ -70,12 +70,12 @@ bare-sound kind s {body} {t} e = go body (item-sound kind 0 s e)
 -- a connective over any reading of its two expressions
 module _ (reader : ℕ → Reader E) (items kind : ℕ) (join : E → E → E) (is : Connective kind join) where
   both-sound : ((items : ℕ) (s : List ℕ) (x : E) (t : List ℕ) → reader items s ≡ some (x, t) → Stands items s x t)
-      → (s : List ℕ) (x : E) (t : List ℕ) → andThen (item kind 0 s) (λ h. readBoth reader items join (h .1)) ≡ some (x, t) → Stands (suc items) s x t
+      → (s : List ℕ) (x : E) (t : List ℕ) → bind (item kind 0 s) (λ h. readBoth reader items join (h .1)) ≡ some (x, t) → Stands (suc items) s x t
   unfolding readBoth
   both-sound sound s x t e =
-      andThen-cases (item kind 0 s) _ e λ h p e₁.
-      andThen-cases (reader items (h .1)) _ e₁ λ a q e₂.
-      andThen-cases (reader (items - size (a .0)) (a .1)) _ e₂ λ b r e₃.
+      bind-cases (item kind 0 s) _ e λ h p e₁.
+      bind-cases (reader items (h .1)) _ e₁ λ a q e₂.
+      bind-cases (reader (items - size (a .0)) (a .1)) _ e₂ λ b r e₃.
       let left = sound items (h .1) (a .0) (a .1) q in
       let right = sound (items - size (a .0)) (a .1) (b .0) (b .1) r in
       let found : (join (a .0) (b .0) ≡ x) × (b .1 ≡ t) = found-eq e₃ in
@@ -87,8 +87,8 @@ module _ (reader : ℕ → Reader E) (items kind : ℕ) (join : E → E → E) (
 
   both-whole : (n : ℕ) → ((items : ℕ) (x : E) (t : List ℕ) → size x ≤ n → size x ≤ items → All Sixteen (leaves x) → reader items (exprBytes x ++ t) ≡ some (x, t))
       → (a b : E) (t : List ℕ) → size (join a b) ≤ suc n → size (join a b) ≤ suc items → All Sixteen (leaves (join a b))
-      → andThen (item kind 0 (exprBytes (join a b) ++ t)) (λ h. readBoth reader items join (h .1)) ≡ some (join a b, t)
-  unfolding readBoth
+      → bind (item kind 0 (exprBytes (join a b) ++ t)) (λ h. readBoth reader items join (h .1)) ≡ some (join a b, t)
+  unfolding readBoth bind
   both-whole n whole a b t p q r =
       let both = all-split Sixteen (leaves a) (leaves b) (rw (is .bodies) at r) in
       let count = is .items a b in
@@ -97,18 +97,18 @@ module _ (reader : ℕ → Reader E) (items kind : ℕ) (join : E → E → E) (
         whole (items - size a) b t (omega arith) (omega arith) (both .1),
       ))
 
-leaf-sound : (items : ℕ) (s : List ℕ) (x : E) (t : List ℕ) → andThen {B = E × List ℕ} (item 3 16 s) (λ h. some (leaf (h .0), h .1)) ≡ some (x, t) → Stands (suc items) s x t
+leaf-sound : (items : ℕ) (s : List ℕ) (x : E) (t : List ℕ) → bind {B = E × List ℕ} (item 3 16 s) (λ h. some (leaf (h .0), h .1)) ≡ some (x, t) → Stands (suc items) s x t
 unfolding exprBytes size leaves
 leaf-sound items s x t e =
-    andThen-cases (item 3 16 s) _ e λ h p e₁.
+    bind-cases (item 3 16 s) _ e λ h p e₁.
     let front = item-sound 3 16 s p in
     let found : (leaf (h .0) ≡ x) × (h .1 ≡ t) = found-eq e₁ in
     rw (← found .0, ← found .1) (front .0, omega arith, (front .1, tt))
 
-always-sound : (items : ℕ) (s : List ℕ) (x : E) (t : List ℕ) → andThen {B = E × List ℕ} (item 7 0 s) (λ h. some (always, h .1)) ≡ some (x, t) → Stands (suc items) s x t
+always-sound : (items : ℕ) (s : List ℕ) (x : E) (t : List ℕ) → bind {B = E × List ℕ} (item 7 0 s) (λ h. some (always, h .1)) ≡ some (x, t) → Stands (suc items) s x t
 unfolding exprBytes size leaves
 always-sound items s x t e =
-    andThen-cases (item 7 0 s) _ e λ h p e₁.
+    bind-cases (item 7 0 s) _ e λ h p e₁.
     let found : (always ≡ x) × (h .1 ≡ t) = found-eq e₁ in
     rw (← found .0, ← found .1) (bare-sound 7 s p, omega arith, tt)
 
@@ -128,7 +128,7 @@ exprRead (suc n) (suc items) s x t e =
 -- an expression within the count, with leaves of 16 bytes, is read back from its writing; depth as much as items is enough
 pub exprWhole : (n items : ℕ) (x : Expr (List ℕ)) (t : List ℕ) → size x ≤ n → size x ≤ items → All (λ body. length body ≡ 16) (leaves x)
     → readExpr n items (exprBytes x ++ t) ≡ some (x, t)
-unfolding readExpr exprBytes size leaves item
+unfolding readExpr exprBytes size leaves item bind
 exprWhole zero items x t p q r = absurd (omega (arith, size-positive x))
 exprWhole (suc n) zero x t p q r = absurd (omega (arith, size-positive x))
 exprWhole (suc n) (suc items) (leaf body) t p q r = rw (item-whole 3 16 body t (r .0))
@@ -153,10 +153,10 @@ four a b c d t = simp append-assoc
 pub schemaRead : (s : List ℕ) (x : SchemaItems) (t : List ℕ) → readSchema s ≡ some (x, t) → (s ≡ schemaBytes x ++ t) × WholeSchema x
 unfolding readSchema schemaBytes
 schemaRead s x t e =
-    andThen-cases (item 2 4 s) _ e λ h p e₁.
-    andThen-cases (readClause (h .1)) _ e₁ λ c q e₂.
-    andThen-cases (readClause (c .1)) _ e₂ λ r v e₃.
-    andThen-cases (readClause (r .1)) _ e₃ λ u w e₄.
+    bind-cases (item 2 4 s) _ e λ h p e₁.
+    bind-cases (readClause (h .1)) _ e₁ λ c q e₂.
+    bind-cases (readClause (c .1)) _ e₂ λ r v e₃.
+    bind-cases (readClause (r .1)) _ e₃ λ u w e₄.
     let head = item-sound 2 4 s p in
     let create = clauseRead (h .1) (c .0) (c .1) q in
     let detach = clauseRead (c .1) (r .0) (r .1) v in
@@ -169,23 +169,23 @@ schemaRead s x t e =
 
 -- a whole schema is read back from its writing
 pub schemaWhole : (x : SchemaItems) (t : List ℕ) → WholeSchema x → readSchema (schemaBytes x ++ t) ≡ some (x, t)
-unfolding readSchema schemaBytes
+unfolding readSchema schemaBytes bind
 schemaWhole x t whole = simp (append-assoc, item-whole 2 4 (x .head), clauseWhole, whole .head-length, whole .create-whole, whole .detach-whole, whole .consequent-whole)
 
 -- of any bytes, broken or not: what is read, written again, and what is left over are the bytes; it is within the counts and whole
 pub file-read : (s : List ℕ) → (s ≡ termsBytes (fileOf s .kinds) (fileOf s .schemas) ++ fileOf s .rest)
-    × (length (fileOf s .kinds) ≤ 32) × (length (fileOf s .schemas) ≤ 16)
+    × (length (fileOf s .kinds) ≤ kindsLimit) × (length (fileOf s .schemas) ≤ schemasLimit)
     × All (λ body. length body ≡ 4) (fileOf s .kinds) × All WholeSchema (fileOf s .schemas)
 unfolding fileOf termsBytes
 file-read s =
-    let behind = many (item 1 4) 32 s .1 in (
+    let behind = many (item 1 4) kindsLimit s .1 in (
       rw append-assoc (
-          rw (← many-bytes readSchema schemaBytes (λ s x t e. schemaRead s x t e .0) 16 behind)
-          (many-bytes (item 1 4) (λ body. 1 ∷ body) (λ s x t e. item-sound 1 4 s e .0) 32 s)),
-      many-count (item 1 4) 32 s,
-      many-count readSchema 16 behind,
-      many-all (item 1 4) (λ body. length body ≡ 4) (λ s x t e. item-sound 1 4 s e .1) 32 s,
-      many-all readSchema WholeSchema (λ s x t e. schemaRead s x t e .1) 16 behind,
+          rw (← many-bytes readSchema schemaBytes (λ s x t e. schemaRead s x t e .0) schemasLimit behind)
+          (many-bytes (item 1 4) (λ body. 1 ∷ body) (λ s x t e. item-sound 1 4 s e .0) kindsLimit s)),
+      many-count (item 1 4) kindsLimit s,
+      many-count readSchema schemasLimit behind,
+      many-all (item 1 4) (λ body. length body ≡ 4) (λ s x t e. item-sound 1 4 s e .1) kindsLimit s,
+      many-all readSchema WholeSchema (λ s x t e. schemaRead s x t e .1) schemasLimit behind,
     )
 
 -- a schema begins with another byte than a kind
@@ -195,12 +195,12 @@ no-kind [] = refl
 no-kind (x ∷ schemas) = refl
 
 -- kinds and schemas within the counts are read back from their writing, with nothing left over: so terms are told by their bytes
-pub file-of-writing : (kinds : List (List ℕ)) (schemas : List SchemaItems) → length kinds ≤ 32 → length schemas ≤ 16
+pub file-of-writing : (kinds : List (List ℕ)) (schemas : List SchemaItems) → length kinds ≤ kindsLimit → length schemas ≤ schemasLimit
     → All (λ body. length body ≡ 4) kinds → All WholeSchema schemas → fileOf (termsBytes kinds schemas) ≡ record { kinds = kinds; schemas = schemas; rest = [] }
-unfolding fileOf termsBytes readSchema item
+unfolding fileOf termsBytes readSchema item bind
 file-of-writing kinds schemas few few′ whole whole′ =
-    let first = many-whole (item 1 4) (λ body. 1 ∷ body) (λ body. length body ≡ 4) (item-whole 1 4) kinds 32 (flatMap schemaBytes schemas) whole few (no-kind schemas) in
-    let second = many-whole readSchema schemaBytes WholeSchema schemaWhole schemas 16 [] whole′ few′ refl in
+    let first = many-whole (item 1 4) (λ body. 1 ∷ body) (λ body. length body ≡ 4) (item-whole 1 4) kinds kindsLimit (flatMap schemaBytes schemas) whole few (no-kind schemas) in
+    let second = many-whole readSchema schemaBytes WholeSchema schemaWhole schemas schemasLimit [] whole′ few′ refl in
     rw (first, rw append-nil at second)
 
 -- refusal 2 is kept off by a kind, a schema and nothing left over

@@ -20,7 +20,7 @@ use Rattle.model.specs.Time.{laterOf, before, cut, lastMinute}
 use Rattle.model.specs.Stages.{stages}
 use Rattle.model.specs.Terms.{Terms, Expr, leaf, and, or, except, always, kindOf, rank}
 use Rattle.model.specs.Log.{Record, Log, correlate}
-use Rattle.model.specs.Meaning.{StageTimes, cited, earliest, Edge, edge, endless, reached, timeBy, happening, first, firstWithin, known, leafOccurrence, failureAt, leafFailure, timesOf, stageTime, timesWithin, time}
+use Rattle.model.specs.Meaning.{StageTimes, cited, earliest, Edge, edge, endless, reached, timeBy, happening, first, firstWithin, known, leafOccurrence, failureAt, leafFailure, timesOf, stageStep, timesWithin, stageTime}
 use Rattle.model.specs.Rows.{Row, rowOf, rowAt, isSubject, subjectRows, timedRows}
 use Rattle.model.proofs.TimeLaws.{before-lt, before-le, Side, early, late, side, before-later, before-earlier, before-onceKnown, before-ifNever, before-never}
 use Rattle.model.proofs.ListLaws.{all-flatMap, all-each}
@@ -106,9 +106,9 @@ module _ (m : ℕ) (past : lastMinute < m) where
     timesOf-fits (except a b) = except-related (Fits m) (fits-kept m) _ _ _ _ (timesOf-fits a) (timesOf-fits b)
     timesOf-fits always = (before-lt m 0 (omega arith), before-never m)
 
-  stageTime-fits : (times : StageTimes) → StagesFit m times → (terms : Terms) (log : Log) → StampsFit log → StagesFit m (stageTime times terms log)
-  unfolding stageTime
-  stageTime-fits times fits terms log log-fits s j r h =
+  stageStep-fits : (times : StageTimes) → StagesFit m times → (terms : Terms) (log : Log) → StampsFit log → StagesFit m (stageStep times terms log)
+  unfolding stageStep
+  stageStep-fits times fits terms log log-fits s j r h =
       before-later m _ _ ∙ ap₂ laterOf (before-lt m (r .stamp) (omega arith)) (stage-related (Fits m) (fits-kept m) _ _ _ _ _ _ (clause _ _) (clause _ _) (clause _ _) s _)
     where
       clause : (k : ℕ) (x : Expr Leaf) → Related (Fits m) (timesOf (cited k times) terms log r x) (timesOf (cited k times) terms log r x)
@@ -117,20 +117,20 @@ module _ (m : ℕ) (past : lastMinute < m) where
   timesWithin-fits : (terms : Terms) (log : Log) → StampsFit log → (n : ℕ) → StagesFit m (timesWithin terms log n)
   unfolding timesWithin
   timesWithin-fits terms log log-fits zero s j r h = before-never m
-  timesWithin-fits terms log log-fits (suc n) s j r h = stageTime-fits (timesWithin terms log n) (timesWithin-fits terms log log-fits n) terms log log-fits s j r h
+  timesWithin-fits terms log log-fits (suc n) s j r h = stageStep-fits (timesWithin terms log n) (timesWithin-fits terms log log-fits n) terms log log-fits s j r h
 
   -- A time is at most the last minute: a moment past it takes no time away.
   pub time-fits : (terms : Terms) (log : Log) → StampsFit log → (s : Stage) (j : ℕ) (r : Record) → r .stamp ≤ lastMinute
-      → before m (time terms log s j r) ≡ time terms log s j r
-  unfolding time
+      → before m (stageTime terms log s j r) ≡ stageTime terms log s j r
+  unfolding stageTime
   time-fits terms log log-fits s j r h = timesWithin-fits terms log log-fits (suc (rank s j)) s j r h
 
 -- So a stage has no time, or one that is at most the last minute.
 pub time-at-most : (terms : Terms) (log : Log) → StampsFit log → (s : Stage) (j : ℕ) (r : Record) → r .stamp ≤ lastMinute
-    → (t : ℕ) → time terms log s j r ≡ At t → t ≤ lastMinute
+    → (t : ℕ) → stageTime terms log s j r ≡ At t → t ≤ lastMinute
 time-at-most terms log log-fits s j r h t e = go (side (suc lastMinute) t)
   where
-    same : before (suc lastMinute) (time terms log s j r) ≡ time terms log s j r
+    same : before (suc lastMinute) (stageTime terms log s j r) ≡ stageTime terms log s j r
     same = time-fits (suc lastMinute) (omega arith) terms log log-fits s j r h
 
     go : Side (suc lastMinute) t → t ≤ lastMinute
@@ -158,6 +158,6 @@ row-time terms log log-fits = all-each RowFits _ (λ j. all-flatMap _ RowFits (s
     of-subject : (j : ℕ) (r : Record) → r .stamp ≤ lastMinute → All RowFits (subjectRows terms log j r)
     of-subject j r h = go (isSubject terms j r)
       where
-        go : (b : Bool) → All RowFits (elim b [ true ↦ flatMap (λ s. rowAt (rowOf terms j r s) (time terms log s j r)) stages | false ↦ [] ])
+        go : (b : Bool) → All RowFits (elim b [ true ↦ flatMap (λ s. rowAt (rowOf terms j r s) (stageTime terms log s j r)) stages | false ↦ [] ])
         go true = all-each RowFits _ (λ s. rowAt-fits _ (λ t. refl) _ (time-fits (suc lastMinute) (omega arith) terms log log-fits s j r h)) stages
         go false = tt

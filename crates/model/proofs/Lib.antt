@@ -16,6 +16,7 @@ pub mod RecordLaws
 pub mod LogLaws
 pub mod RowBytesLaws
 pub mod RefusalLaws
+pub mod AnswerLaws
 pub mod WriteLaws
 pub mod Equation
 pub mod LastMinute

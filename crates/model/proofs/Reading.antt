@@ -1,6 +1,6 @@
 -- Laws of the readers of `Bytes`: what an item is, and what reading one thing after another finds.
 --     none-some, found-eq             what a finding tells
---     andThen-cases, orElse-cases     what the parts of a joined reading found
+--     bind-cases, orElse-cases     what the parts of a joined reading found
 --     item-sound, item-whole          an item is read exactly where its kind byte and a body of its length stand
 --     many-induction                  what holds of nothing read, and goes on with each thing read, holds of all that `many` reads
 --     many-bytes                      what was read and what is left over, written one after another, are the bytes
@@ -12,13 +12,13 @@ use native.Mathlib.Omega.{arith}
 use mathlib.Core.Path.{_≡_, refl, ap}
 use mathlib.Core.Bool.{Bool, true, false, cond, _&&_}
 use mathlib.Core.List.{List, [], _∷_, _++_, flatMap, append-assoc}
-use mathlib.Core.Option.{Option, none, some, Option·some-injective}
+use mathlib.Core.Option.{Option, none, some, Option·some-injective, bind}
 use lib.Dec.{leb, eqb}
 use lib.ListN.{length, take, drop, length-append, take-append-drop}
 use lib.Seq.{length-take-le, take-at, drop-at}
 use borrow.Author.Tests.{leb-true, eqb-true, le-leb, eq-eqb, ne-eqb}
 use Rattle.model.specs.Lists.{All}
-use Rattle.model.specs.Bytes.{Reader, andThen, orElse, many, item}
+use Rattle.model.specs.Bytes.{Reader, orElse, many, item}
 
 -- nothing found is not something found
 pub none-some : {A C : Type 0} {a : A} → none ≡ some a → C
@@ -29,9 +29,10 @@ pub found-eq : {A : Type 0} {x y : A} {s t : List ℕ} → _≡_ {A = Option (A 
 found-eq {x} {y} {s} {t} e = let p = Option·some-injective (x, s) (y, t) e in (ap (λ q. q .0) p, ap (λ q. q .1) p)
 
 -- where two readings in turn find something, the first one found something from which the second went on
-pub andThen-cases : {A B C : Type 0} (o : Option A) (f : A → Option B) {b : B} → andThen o f ≡ some b → ((a : A) → o ≡ some a → f a ≡ some b → C) → C
-andThen-cases none f e k = none-some e
-andThen-cases (some a) f e k = k a refl e
+pub bind-cases : {A B C : Type 0} (o : Option A) (f : A → Option B) {b : B} → bind o f ≡ some b → ((a : A) → o ≡ some a → f a ≡ some b → C) → C
+unfolding bind
+bind-cases none f e k = none-some e
+bind-cases (some a) f e k = k a refl e
 
 -- where one of two readings finds something, it is the first or the second
 pub orElse-cases : {A C : Type 0} {o p : Option A} {a : A} → (o ≡ some a → C) → (p ≡ some a → C) → orElse o p ≡ some a → C

@@ -12,10 +12,11 @@ use borrow.Author.Tests.{ltb-true}
 use Rattle.model.specs.declared.Entries.{Entries}
 use Rattle.model.specs.Lists.{isEmpty, anyOf, All}
 use Rattle.model.specs.Log.{sameKey}
+use Rattle.model.specs.Rows.{Row}
 use Rattle.model.specs.Grammar.{fileOf, breaksGrammar}
 use Rattle.model.specs.Fields.{fieldWrong, citationWrong, unsharedEvent}
 use Rattle.model.specs.Records.{recordFrom, readLog, stampsFall, keyRepeats, lastStamp, rowLength}
-use Rattle.model.specs.Calls.{Check, refusal, termsLimit, logLimit, termsOf, logOf, termsChecks, logChecks, notOneRecord, appendChecks, rowsOf, reportChecks, missing, standingOf, standingChecks, checked, checkTerms, checkLog, Outcome, unlessRefused, append, report, standingAs, standing}
+use Rattle.model.specs.Calls.{Check, refusal, termsLimit, logLimit, termsOf, logOf, termsChecks, usedChecks, recordChecks, logChecks, notOneRecord, eventChecks, pageChecks, rowsOf, missing, standingSubject, keyChecks, checked, checkTerms, checkLog, Outcome, unlessRefused, append, onPage, report, standingAs, standing}
 use Rattle.model.specs.Lasting.{Accepted}
 
 -- no check of a list holds
@@ -133,20 +134,20 @@ pub record Rising (w : ℕ) (terms log : List ℕ) (used : ℕ) : Type 0 where
   -- call 2
   pub log-rises : risesFrom 0 (logChecks w terms log used) ≡ true
   -- call 3
-  pub append-rises : (event : List ℕ) → risesFrom 0 (appendChecks w terms log used event) ≡ true
+  pub append-rises : (event : List ℕ) → risesFrom 0 (logChecks w terms log used ++ eventChecks w terms log used event) ≡ true
   -- call 4
-  pub report-rises : (m : ℕ) (page : List ℕ) → risesFrom 0 (reportChecks w terms log used m page) ≡ true
+  pub report-rises : (rows : List Row) (page : List ℕ) → risesFrom 0 (logChecks w terms log used ++ pageChecks w rows page) ≡ true
   -- call 5
-  pub standing-rises : (schema key m : ℕ) → risesFrom 0 (standingChecks w terms log used schema key m) ≡ true
+  pub standing-rises : (schema key m : ℕ) → risesFrom 0 (logChecks w terms log used ++ keyChecks w terms log used schema key m) ≡ true
 
 -- each call's refusals stand in the table's order
 pub rising : (w : ℕ) (terms log : List ℕ) (used : ℕ) → Rising w terms log used
-unfolding risesFrom termsChecks logChecks appendChecks reportChecks standingChecks
+unfolding risesFrom termsChecks usedChecks recordChecks logChecks eventChecks pageChecks keyChecks
 rising w terms log used = record {
   terms-rise = refl;
   log-rises = refl;
   append-rises = λ event. refl;
-  report-rises = λ m page. refl;
+  report-rises = λ rows page. refl;
   standing-rises = λ schema key m. refl;
 }
 
@@ -196,7 +197,7 @@ pub record StandingAccepted (w : ℕ) (terms log : List ℕ) (used schema key m 
   -- 15: the schema is there
   pub schema-there : leb (length (termsOf terms .schemas)) schema ≡ false
   -- 16: the subject is there
-  pub subject-there : missing (standingOf w terms log used schema key m) ≡ false
+  pub subject-there : missing (standingSubject w terms log used schema key m) ≡ false
 
 -- no check of two lists joined holds, exactly if none of either does
 none-append : (a b : List Check) → NoneHolds (a ++ b) ↔ (NoneHolds a × NoneHolds b)
@@ -215,7 +216,7 @@ terms-none terms = (
 
 -- no check of 1 to 9 holds, exactly if the log is accepted
 log-none : (w : ℕ) (terms log : List ℕ) (used : ℕ) → NoneHolds (logChecks w terms log used) ↔ LogAccepted w terms log used
-unfolding logChecks
+unfolding logChecks usedChecks recordChecks logOf
 log-none w terms log used =
     Iff·trans (none-append (termsChecks terms) _) (
       λ h. record {
@@ -253,19 +254,19 @@ refused-number (suc n) buffer o a = refl
 
 -- call 3 returns the number of its refusals
 pub append-number : (w : ℕ) (terms log : List ℕ) (used : ℕ) (event : List ℕ)
-    → append w terms log used event .answer .number ≡ refusal (appendChecks w terms log used event)
+    → append w terms log used event .answer .number ≡ refusal (logChecks w terms log used ++ eventChecks w terms log used event)
 unfolding append
 append-number w terms log used event = refused-number _ _ _ refl
 
 -- so does call 4
 pub report-number : (w : ℕ) (terms log : List ℕ) (used m : ℕ) (page : List ℕ)
-    → report w terms log used m page .answer .number ≡ refusal (reportChecks w terms log used m page)
-unfolding report
+    → report w terms log used m page .answer .number ≡ refusal (logChecks w terms log used ++ pageChecks w (rowsOf w terms log used m) page)
+unfolding report onPage
 report-number w terms log used m page = refused-number _ _ _ refl
 
 -- so does call 5
 pub standing-number : (w : ℕ) (terms log : List ℕ) (used schema key m : ℕ)
-    → standing w terms log used schema key m .number ≡ refusal (standingChecks w terms log used schema key m)
+    → standing w terms log used schema key m .number ≡ refusal (logChecks w terms log used ++ keyChecks w terms log used schema key m)
 unfolding standing standingAs
 standing-number w terms log used schema key m = go _ _
   where
@@ -276,7 +277,7 @@ standing-number w terms log used schema key m = go _ _
 -- call 3 accepts exactly the events to which none of 1 to 9 and 11 to 14 applies
 pub append-accepted : (w : ℕ) (terms log : List ℕ) (used : ℕ) (event : List ℕ)
     → Accepted (append w terms log used event) ↔ AppendAccepted w terms log used event
-unfolding appendChecks
+unfolding eventChecks
 append-accepted w terms log used event =
     rw append-number (Iff·trans (beyond-log w terms log used _ (rising w terms log used .append-rises event)) (
       λ h. record { log-ok = h .0; one-record = h .1 .0; not-earlier = h .1 .1 .0; new = h .1 .1 .1 .0; event-fits = h .1 .1 .1 .1 .0 },
@@ -286,14 +287,14 @@ append-accepted w terms log used event =
 -- call 4 accepts exactly the reports to which none of 1 to 10 applies
 pub report-accepted : (w : ℕ) (terms log : List ℕ) (used m : ℕ) (page : List ℕ) → Accepted (report w terms log used m page)
     ↔ (LogAccepted w terms log used × (ltb (length page) (rowLength w * length (rowsOf w terms log used m)) ≡ false))
-unfolding reportChecks
+unfolding pageChecks
 report-accepted w terms log used m page =
-    rw report-number (Iff·trans (beyond-log w terms log used _ (rising w terms log used .report-rises m page)) (λ h. (h .0, h .1 .0), λ a. (a .0, (a .1, tt))))
+    rw report-number (Iff·trans (beyond-log w terms log used _ (rising w terms log used .report-rises (rowsOf w terms log used m) page)) (λ h. (h .0, h .1 .0), λ a. (a .0, (a .1, tt))))
 
 -- call 5 accepts exactly the questions to which none of 1 to 9, 15 and 16 applies
 pub standing-accepted : (w : ℕ) (terms log : List ℕ) (used schema key m : ℕ) → (standing w terms log used schema key m .number ≡ 0)
     ↔ StandingAccepted w terms log used schema key m
-unfolding standingChecks
+unfolding keyChecks
 standing-accepted w terms log used schema key m =
     rw standing-number (Iff·trans (beyond-log w terms log used _ (rising w terms log used .standing-rises schema key m)) (
       λ h. record { log-ok = h .0; schema-there = h .1 .0; subject-there = h .1 .1 .0 },

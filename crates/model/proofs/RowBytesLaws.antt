@@ -9,8 +9,8 @@ use lib.ListN.{length, take, drop, length-append}
 use lib.Seq.{take-at, drop-at, take-all}
 use Rattle.model.specs.Stages.{stageNumber}
 use Rattle.model.specs.Rows.{Row}
-use Rattle.model.specs.Bytes.{bytesOf, numberOf, numberAt}
-use Rattle.model.specs.Records.{rowLength, rowBytes, timeIn, rowsIn}
+use Rattle.model.specs.Bytes.{bytesOf, numberAt, pieces}
+use Rattle.model.specs.Records.{rowLength, rowBytes, timeIn}
 use Rattle.model.proofs.NumberLaws.{bytes-length, bytes-number}
 
 -- what stands in a row before its time
@@ -44,8 +44,8 @@ rows-length w [] = omega arith
 rows-length w (x ∷ rows) = rw (length-append, row-length, rows-length w rows, mul-suc) (omega arith)
 
 -- rows one behind another, whatever follows, are told apart again
-pub rows-in : (w : ℕ) (rows : List Row) (t : List ℕ) → rowsIn w (length rows) (flatMap (rowBytes w) rows ++ t) ≡ map (rowBytes w) rows
-unfolding rowsIn flatMap
+pub rows-in : (w : ℕ) (rows : List Row) (t : List ℕ) → pieces (rowLength w) (length rows) (flatMap (rowBytes w) rows ++ t) ≡ map (rowBytes w) rows
+unfolding pieces flatMap
 rows-in w [] t = refl
 rows-in w (x ∷ rows) t =
     rw (

@@ -17,7 +17,7 @@ use Rattle.model.specs.Time.{before}
 use Rattle.model.specs.Stages.{stages}
 use Rattle.model.specs.Terms.{Terms, schemaAt}
 use Rattle.model.specs.Log.{Record, Log, keyOf, sameKey}
-use Rattle.model.specs.Meaning.{time}
+use Rattle.model.specs.Meaning.{stageTime}
 use Rattle.model.specs.Rows.{Row, rowOf, rowAt, isSubject, subjectRows, timedRows, strike, reportRows}
 use Rattle.model.specs.Records.{keyRepeats}
 use Rattle.model.specs.Calls.{rowsOf, report}
@@ -30,7 +30,7 @@ use Rattle.model.proofs.MemberLaws.{mem-flatMap, flatMap-mem, mem-numbe
 
 -- the row of a record's stage where its time is before m, else none
 unfoldable pub rowsAt : Terms → Log → ℕ → ℕ → Record → Stage → List Row
-rowsAt terms log m j r s = rowAt (rowOf terms j r s) (before m (time terms log s j r))
+rowsAt terms log m j r s = rowAt (rowOf terms j r s) (before m (stageTime terms log s j r))
 
 -- the rows of a record under schema j that are timed before m
 unfoldable pub subjectRowsAt : Terms → Log → ℕ → ℕ → Record → List Row
@@ -51,7 +51,7 @@ strike-subject : (terms : Terms) (log : Log) (m j : ℕ) (r : Record)
 unfolding subjectRows subjectRowsAt rowsAt strike
 strike-subject terms log m j r = go (isSubject terms j r)
   where
-    go : (b : Bool) → strike (λ (x : Row). x .time) m (elim b [ true ↦ flatMap (λ s. rowAt (rowOf terms j r s) (time terms log s j r)) stages | false ↦ [] ])
+    go : (b : Bool) → strike (λ (x : Row). x .time) m (elim b [ true ↦ flatMap (λ s. rowAt (rowOf terms j r s) (stageTime terms log s j r)) stages | false ↦ [] ])
         ≡ elim b [ true ↦ flatMap (rowsAt terms log m j r) stages | false ↦ [] ]
     go true = strike-flatMap _ m _ stages ∙ ap (λ (f : Stage → List Row). flatMap f stages) (fun-ext λ s. strike-rowAt terms m j r s _)
     go false = refl
@@ -82,7 +82,7 @@ pub record InReport (terms : Terms) (log : Log) (m : ℕ) (x : Row) : Type 0 whe
   -- it is a subject of the schema
   pub is-subject : isSubject terms schema subject ≡ true
   -- the minute is the stage's time
-  pub timed : time terms log stage schema subject ≡ At minute
+  pub timed : stageTime terms log stage schema subject ≡ At minute
   -- it is before the moment
   pub in-time : minute < m
   -- the row says just that
@@ -104,14 +104,14 @@ rowAt-mem f Never k = absurd (List·Memᴰ·not-nil k)
 
 -- a row of a stage
 rowsAt-mem : (terms : Terms) (log : Log) (m j : ℕ) (r : Record) (s : Stage) {x : Row} → List·Memᴰ x (rowsAt terms log m j r s)
-    → (n : ℕ) × (time terms log s j r ≡ At n) × (n < m) × (x ≡ rowOf terms j r s n)
+    → (n : ℕ) × (stageTime terms log s j r ≡ At n) × (n < m) × (x ≡ rowOf terms j r s n)
 unfolding rowsAt
 rowsAt-mem terms log m j r s k =
     let found = rowAt-mem (rowOf terms j r s) _ k in
     let h = before-at m _ (found .0) (found .1) in
     (found .0, h .0, h .1, found .2)
 
-mem-rowsAt : (terms : Terms) (log : Log) (m j : ℕ) (r : Record) (s : Stage) (n : ℕ) → time terms log s j r ≡ At n → n < m
+mem-rowsAt : (terms : Terms) (log : Log) (m j : ℕ) (r : Record) (s : Stage) (n : ℕ) → stageTime terms log s j r ≡ At n → n < m
     → List·Memᴰ (rowOf terms j r s n) (rowsAt terms log m j r s)
 unfolding rowsAt rowAt
 mem-rowsAt terms log m j r s n e h = rw (e, before-lt m n h) (List·Memᴰ·head refl)
@@ -236,7 +236,7 @@ distinct-subject terms log m j r = go (isSubject terms j r)
     told s x k = ap (λ (x : Row). x .stage) (rowsAt-mem terms log m j r s k .3)
 
     go : (b : Bool) → Distinct {A = Row} (elim b [ true ↦ flatMap (rowsAt terms log m j r) stages | false ↦ [] ])
-    go true = distinct-flatMap (rowsAt terms log m j r) (λ s. one s (before m (time terms log s j r))) stages (apart-by (λ (x : Row). x .stage) (rowsAt terms log m j r) told stages distinct-stages)
+    go true = distinct-flatMap (rowsAt terms log m j r) (λ s. one s (before m (stageTime terms log s j r))) stages (apart-by (λ (x : Row). x .stage) (rowsAt terms log m j r) told stages distinct-stages)
     go false = tt
 
 -- No row stands twice in a report over an accepted log: rows differ by schema, by the subject's key or by stage.

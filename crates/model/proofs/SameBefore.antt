@@ -22,7 +22,7 @@ use Rattle.model.specs.Time.{laterOf, earlierOf, before}
 use Rattle.model.specs.Terms.{Terms, Expr, leaf, and, or, except, always, kindOf, schemaAt, rank}
 use Rattle.model.specs.Log.{Record, Log, correlate}
 use Rattle.model.specs.Rows.{strike}
-use Rattle.model.specs.Meaning.{StageTimes, cited, earliest, Edge, edge, endless, fromEdge, beforeEdge, reached, timeBy, happening, first, firstWithin, known, leafOccurrence, failureAt, leafFailure, timesOf, stageTime, timesWithin, time}
+use Rattle.model.specs.Meaning.{StageTimes, cited, earliest, Edge, edge, endless, fromEdge, beforeEdge, reached, timeBy, happening, first, firstWithin, known, leafOccurrence, failureAt, leafFailure, timesOf, stageStep, timesWithin, stageTime}
 use Rattle.model.proofs.TimeLaws.{Side, early, late, side, before-le, before-later, before-earlier, before-onceKnown, before-before, before-cut, before-never, before-ifNever, ifNever-never, onceKnown-never}
 use Rattle.model.proofs.RelatedTimes.{Kept, Related, and-related, or-related, except-related, stage-related}
 use Rattle.model.proofs.EdgeLaws.{before-fromEdge, before-beforeEdge, never-within}
@@ -186,23 +186,23 @@ cited-same m k times times′ same s j r = go (ltb (rank s j) k)
     go false = refl
 
 -- a stage of a late subject is late
-stageTime-late : (m : ℕ) (times : StageTimes) (terms : Terms) (log : Log) → LateStages m (stageTime times terms log)
-unfolding stageTime laterOf
-stageTime-late m times terms log s j r h = rw (before-later, before-le m (r .stamp) h)
+stageStep-late : (m : ℕ) (times : StageTimes) (terms : Terms) (log : Log) → LateStages m (stageStep times terms log)
+unfolding stageStep laterOf
+stageStep-late m times terms log s j r h = rw (before-later, before-le m (r .stamp) h)
 
 timesWithin-late : (m : ℕ) (terms : Terms) (log : Log) (n : ℕ) → LateStages m (timesWithin terms log n)
 unfolding timesWithin
 timesWithin-late m terms log zero s j r h = before-never m
-timesWithin-late m terms log (suc n) s j r h = stageTime-late m (timesWithin terms log n) terms log s j r h
+timesWithin-late m terms log (suc n) s j r h = stageStep-late m (timesWithin terms log n) terms log s j r h
 
 -- a subject stamped at m or later has no stage before m
-pub time-late : (m : ℕ) (terms : Terms) (log : Log) → LateStages m (time terms log)
-unfolding time
+pub time-late : (m : ℕ) (terms : Terms) (log : Log) → LateStages m (stageTime terms log)
+unfolding stageTime
 time-late m terms log s j = timesWithin-late m terms log (suc (rank s j)) s j
 
 module _ (m : ℕ) (terms : Terms) (log log′ : Log) (alike : recordsBefore m log ≡ recordsBefore m log′) where
   timesWithin-same : (n : ℕ) (s : Stage) (j : ℕ) (r : Record) → before m (timesWithin terms log n s j r) ≡ before m (timesWithin terms log′ n s j r)
-  unfolding timesWithin stageTime
+  unfolding timesWithin stageStep
   timesWithin-same zero s j r = refl
   timesWithin-same (suc n) s j r =
       simp before-later
@@ -216,6 +216,6 @@ module _ (m : ℕ) (terms : Terms) (log log′ : Log) (alike : recordsBefore m l
           (cited-late m k _ (timesWithin-late m terms log n)) (cited-late m k _ (timesWithin-late m terms log′ n)) (cited-same m k _ _ same) alike
 
   -- stages: two logs alike before m have the same stages before m
-  pub time-same : (s : Stage) (j : ℕ) (r : Record) → before m (time terms log s j r) ≡ before m (time terms log′ s j r)
-  unfolding time
+  pub time-same : (s : Stage) (j : ℕ) (r : Record) → before m (stageTime terms log s j r) ≡ before m (stageTime terms log′ s j r)
+  unfolding stageTime
   time-same s j r = timesWithin-same (suc (rank s j)) s j r

@@ -5,7 +5,7 @@ use native.Mathlib.Omega.{arith}
 use mathlib.Core.Path.{_≡_, refl, ap, sym, _∙_}
 use mathlib.Core.Logic.{_↔_}
 use mathlib.Core.Bool.{Bool, true, false, cond, _&&_}
-use mathlib.Core.List.{List, [], _∷_, List·Memᴰ, List·Memᴰ·head, List·Memᴰ·tail}
+use mathlib.Core.List.{List, [], _∷_, _++_, List·Memᴰ, List·Memᴰ·head, List·Memᴰ·tail}
 use mathlib.Core.Option.{Option, none, some}
 use lib.Dec.{ltb, eqb}
 use lib.ListN.{length}
@@ -18,10 +18,10 @@ use Rattle.model.specs.declared.Entries.{Entries}
 use Rattle.model.specs.Time.{before}
 use Rattle.model.specs.Terms.{Terms}
 use Rattle.model.specs.Log.{Record, Log, keyOf}
-use Rattle.model.specs.Meaning.{time}
+use Rattle.model.specs.Meaning.{stageTime}
 use Rattle.model.specs.Rows.{Row, rowOf, isSubject, reportRows, find, subjectOf, entriesOf}
 use Rattle.model.specs.Records.{keyRepeats}
-use Rattle.model.specs.Calls.{termsOf, logOf, missing, standingOf, standingChecks, refusal, entriesFor, standingAs, standing}
+use Rattle.model.specs.Calls.{termsOf, logOf, missing, logChecks, standingSubject, keyChecks, refusal, entriesFor, standingAs, standing}
 use Rattle.model.proofs.BoolLaws.{and-true}
 use Rattle.model.proofs.TimeLaws.{before-lt}
 use Rattle.model.proofs.RefusalLaws.{standing-accepted}
@@ -75,7 +75,7 @@ subject-found terms log j key m r e =
     let b = and-true (isSubject terms j r) (eqb (keyOf terms r) key) (a .0) in
     record { logged = found .0; is-subject = b .0; has-key = eqb-true (keyOf terms r) key (b .1); stamped = ltb-true (r .stamp) m (a .1) }
 
-entry-of : (terms : Terms) (log : Log) (m j : ℕ) (r : Record) (s : Stage) → entry s (entriesOf terms log m j r) ≡ before m (time terms log s j r)
+entry-of : (terms : Terms) (log : Log) (m j : ℕ) (r : Record) (s : Stage) → entry s (entriesOf terms log m j r) ≡ before m (stageTime terms log s j r)
 unfolding entry entriesOf
 entry-of terms log m j r Created = refl
 entry-of terms log m j r Detached = refl
@@ -85,7 +85,7 @@ entry-of terms log m j r Violated = refl
 
 -- a row of a subject's schema and key is that subject's
 row-of : (terms : Terms) (log : Log) (m j : ℕ) (r : Record) (x : Row) → keyRepeats terms log ≡ false → List·Memᴰ r log → isSubject terms j r ≡ true
-    → List·Memᴰ x (reportRows terms log m) → x .schema ≡ j → x .key ≡ keyOf terms r → (time terms log (x .stage) j r ≡ At (x .time)) × (x .time < m)
+    → List·Memᴰ x (reportRows terms log m) → x .schema ≡ j → x .key ≡ keyOf terms r → (stageTime terms log (x .stage) j r ≡ At (x .time)) × (x .time < m)
 unfolding rowOf
 row-of terms log m j r x once logged is-subject k a b =
     let i = row-exact terms log m x .0 k in
@@ -105,7 +105,7 @@ entries-show terms log m j r once declared logged is-subject = record { shown = 
   where
     there : (s : Stage) (t : ℕ) → entry s (entriesOf terms log m j r) ≡ At t → List·Memᴰ (rowOf terms j r s t) (reportRows terms log m)
     there s t e =
-        let h = before-at m (time terms log s j r) t (sym (entry-of terms log m j r s) ∙ e) in
+        let h = before-at m (stageTime terms log s j r) t (sym (entry-of terms log m j r s) ∙ e) in
         row-exact terms log m (rowOf terms j r s t) .1 (record {
           schema = j;
           subject = r;
@@ -141,10 +141,10 @@ entries-show terms log m j r once declared logged is-subject = record { shown = 
 pub standing-shows : (w : ℕ) (terms log : List ℕ) (used j key m : ℕ) → standing w terms log used j key m .number ≡ 0
     → (r : Record) × IsSubjectOf (termsOf terms) (logOf w terms log used) j key m r
     × Shows (termsOf terms) (logOf w terms log used) m j r (standing w terms log used j key m .entries)
-unfolding standing standingOf standingAs entriesFor missing
+unfolding standing standingSubject standingAs entriesFor missing
 standing-shows w terms log used j key m e =
     let ok = standing-accepted w terms log used j key m .0 e in
-    go (refusal (standingChecks w terms log used j key m)) (standingOf w terms log used j key m) refl (ok .subject-there) (ok .log-ok .once) (leb-false _ _ (ok .schema-there)) e
+    go (refusal (logChecks w terms log used ++ keyChecks w terms log used j key m)) (standingSubject w terms log used j key m) refl (ok .subject-there) (ok .log-ok .once) (leb-false _ _ (ok .schema-there)) e
   where
     T : Terms
     T = termsOf terms

@@ -1,5 +1,7 @@
--- The number and the value that document 01 gives to each case of the answers. Document 01, 'Calls'. Assumes nothing: these are definitions.
+-- What each case of the answers stands for: document 01, 'Calls', the table and the paragraph behind it. Assumes nothing: these are definitions.
 use Prim.Native.Nat.{ℕ, _+_, _*_}
+use Rattle.model.specs.declared.Refusal.{Refusal}
+use Rattle.model.specs.declared.Refusal.the-variants.{TermsTooLong, BrokenGrammar, FieldOutOfRange, CitationTooHigh, NothingShared, UsedTooLong, BrokenRecord, StampFalls, KeyRepeats, PageTooShort, NotOneRecord, StampTooLow, KeyPresent, NoRoom, NoSchema, NoSubject}
 use Rattle.model.specs.declared.Checked.{Checked}
 use Rattle.model.specs.declared.Checked.the-variants as checkedCase
 use Rattle.model.specs.declared.Appended.{Appended}
@@ -11,40 +13,59 @@ use Rattle.model.specs.declared.Standing.the-variants as standingCase
 use Rattle.model.specs.declared.Entries.{Entries}
 use Rattle.model.specs.Rows.{notYet}
 
--- what a call returns: 0 or the refusal's number, and a count or length
+-- the table's number for each refusal (table, first column); none has 0
+abbrev pub refusalNumber : Refusal → ℕ
+refusalNumber TermsTooLong = 1
+refusalNumber BrokenGrammar = 2
+refusalNumber FieldOutOfRange = 3
+refusalNumber CitationTooHigh = 4
+refusalNumber NothingShared = 5
+refusalNumber UsedTooLong = 6
+refusalNumber BrokenRecord = 7
+refusalNumber StampFalls = 8
+refusalNumber KeyRepeats = 9
+refusalNumber PageTooShort = 10
+refusalNumber NotOneRecord = 11
+refusalNumber StampTooLow = 12
+refusalNumber KeyPresent = 13
+refusalNumber NoRoom = 14
+refusalNumber NoSchema = 15
+refusalNumber NoSubject = 16
+
+-- what calls 1 to 4 return (behind the table)
 pub record Answer : Type 0 where
-  -- 0 where the call is accepted
+  -- 0, or the refusal's number
   pub number : ℕ
-  -- 0 where it is refused
+  -- a count or a length; 0 with a refusal
   pub value : ℕ
 
--- what call 5 returns
+-- what call 5 returns (behind the table)
 pub record StandingAnswer : Type 0 where
-  -- 0 where the call is accepted
+  -- 0, or the refusal's number
   pub number : ℕ
-  -- five times not yet where it is refused
+  -- five times not yet with a refusal
   pub entries : Entries
 
--- a check's count is 0
+-- calls 1 and 2 count nothing
 unfoldable pub checkedAnswer : Checked → Answer
 checkedAnswer checkedCase.Accepted = record { number = 0; value = 0 }
-checkedAnswer (checkedCase.Refused n) = record { number = n; value = 0 }
+checkedAnswer (checkedCase.Refused x) = record { number = refusalNumber x; value = 0 }
 
--- an append returns the new used length
+-- call 3 gives a length
 unfoldable pub appendedAnswer : Appended → Answer
 appendedAnswer (appendedCase.Length n) = record { number = 0; value = n }
-appendedAnswer (appendedCase.Refused n) = record { number = n; value = 0 }
+appendedAnswer (appendedCase.Refused x) = record { number = refusalNumber x; value = 0 }
 
--- a report returns the row count
+-- call 4 gives a count
 unfoldable pub reportedAnswer : Reported → Answer
 reportedAnswer (reportedCase.Count n) = record { number = 0; value = n }
-reportedAnswer (reportedCase.Refused n) = record { number = n; value = 0 }
+reportedAnswer (reportedCase.Refused x) = record { number = refusalNumber x; value = 0 }
 
--- a standing returns five entries
+-- call 5 gives entries
 unfoldable pub standingAnswer : Standing → StandingAnswer
 standingAnswer (standingCase.Shown e) = record { number = 0; entries = e }
-standingAnswer (standingCase.Refused n) = record { number = n; entries = notYet }
+standingAnswer (standingCase.Refused x) = record { number = refusalNumber x; entries = notYet }
 
--- the one number that calls 1 to 4 answer to the library service
+-- the answer as the library service gets it, in 64 bits
 unfoldable pub packed : Answer → ℕ
 packed a = a .number * 4294967296 + a .value

@@ -1,4 +1,4 @@
--- Numbers in bytes, bytes written into a buffer, and the reading of one thing after another.
+-- Numbers in bytes, bytes put into a buffer, and the reading of one thing after another.
 -- Document 01, 'Terms and log', first paragraph. `w` is a width in bytes: everything holds for each. Assumes nothing: these are definitions.
 use Prim.Native.Nat.{ℕ, zero, suc, _+_, _*_, _/_, _%_}
 use mathlib.Core.Bool.{cond, _&&_}
@@ -7,12 +7,12 @@ use mathlib.Core.Option.{Option, none, some}
 use lib.Dec.{leb, eqb}
 use lib.ListN.{length, getD, take, drop}
 
--- a number in w bytes, low byte first
+-- a number in w bytes, the low one first (sentence 1)
 unfoldable pub bytesOf : ℕ → ℕ → List ℕ
 bytesOf zero n = []
 bytesOf (suc w) n = n % 256 ∷ bytesOf w (n / 256)
 
--- the number that bytes stand for, low byte first
+-- the number that bytes stand for (sentence 1)
 unfoldable pub numberOf : List ℕ → ℕ
 numberOf [] = 0
 numberOf (b ∷ s) = b + 256 * numberOf s
@@ -21,11 +21,16 @@ numberOf (b ∷ s) = b + 256 * numberOf s
 unfoldable pub byteAt : List ℕ → ℕ → ℕ
 byteAt s at = getD s at 0
 
--- the number in w bytes from a place on
+-- the number in the w bytes from a place on
 unfoldable pub numberAt : ℕ → List ℕ → ℕ → ℕ
 numberAt w s at = numberOf (take w (drop at s))
 
--- a buffer with bytes put at a place, and every other byte as it was
+-- bytes cut into n pieces of one length
+unfoldable pub pieces : ℕ → ℕ → List ℕ → List (List ℕ)
+pieces size zero s = []
+pieces size (suc n) s = take size s ∷ pieces size n (drop size s)
+
+-- a buffer with bytes put at a place, and every other byte as it was ('Calls', 3 and 4)
 unfoldable pub written : List ℕ → ℕ → List ℕ → List ℕ
 written buffer at bs = take at buffer ++ (bs ++ drop (at + length bs) buffer)
 
@@ -33,10 +38,10 @@ written buffer at bs = take at buffer ++ (bs ++ drop (at + length bs) buffer)
 abbrev pub Reader : Type 0 → Type 0
 Reader A = List ℕ → Option (A × List ℕ)
 
--- the second reading goes on with what the first one found
-abbrev pub andThen : {A B : Type 0} → Option A → (A → Option B) → Option B
-andThen none f = none
-andThen (some a) f = f a
+-- the first reading, or else the second
+abbrev pub orElse : {A : Type 0} → Option A → Option A → Option A
+orElse none b = b
+orElse (some a) b = some a
 
 -- one thing after another as far as they can be read, at most n, with the bytes left over
 unfoldable pub many : {A : Type 0} → Reader A → ℕ → List ℕ → List A × List ℕ
@@ -46,12 +51,7 @@ many reader (suc n) s = elim (reader s) [
   | some found ↦ let rest = many reader n (found .1) in (found .0 ∷ rest .0, rest .1)
 ]
 
--- the first reading, or else the second
-abbrev pub orElse : {A : Type 0} → Option A → Option A → Option A
-orElse none b = b
-orElse (some a) b = some a
-
--- an item: its kind byte, then a body of n bytes, whatever they hold; the body is what is read
+-- an item (sentence 2): its kind byte, then a body of n bytes, whatever they hold; the body is what is read
 unfoldable pub item : ℕ → ℕ → Reader (List ℕ)
 item kind n [] = none
 item kind n (b ∷ s) = cond (eqb b kind && leb n (length s)) (some (take n s, drop n s)) none

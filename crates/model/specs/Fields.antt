@@ -1,9 +1,9 @@
 -- The fields of terms: what the bodies stand for, and refusals 3, 4 and 5, each over the whole file.
--- Document 01, 'Terms and log' and the table of 'Calls'. Assumes nothing: these are definitions.
+-- Document 01, 'Terms and log', 'Terms items' and 'Citation'; refusals 3, 4 and 5 of the table. Assumes nothing: these are definitions.
 use Prim.Native.Nat.{ℕ, _+_, _*_}
 use mathlib.Core.Bool.{Bool, true, false, cond, not, _&&_, _||_}
 use mathlib.Core.List.{List, [], map}
-use mathlib.Core.Option.{Option, none, some}
+use mathlib.Core.Option.{Option, none, some, bind}
 use lib.Dec.{leb, ltb, eqb}
 use lib.ListN.{length, getD, drop}
 use Rattle.model.specs.declared.StageForm.{StageForm}
@@ -19,55 +19,55 @@ use Rattle.model.specs.Lists.{numbersFrom, anyOf}
 use Rattle.model.specs.Stages.{stageOf}
 use Rattle.model.specs.Terms.{EventKind, Expr, leaf, and, or, except, always, Schema, Terms, kindAt, schemaAt, kindOf, rank, leaves, leafEvents}
 use Rattle.model.specs.Log.{carries, bothCarry, attributes}
-use Rattle.model.specs.Bytes.{byteAt, numberAt, andThen}
+use Rattle.model.specs.Bytes.{byteAt, numberAt}
 use Rattle.model.specs.Grammar.{SchemaItems, TermsFile}
 
--- item 01: kind number, 16-bit mask, key attribute
+-- an event kind from its body (item 01)
 unfoldable pub kindFrom : List ℕ → EventKind
 kindFrom body = record { mask = numberAt 2 body 1; key = byteAt body 3 }
 
--- norm types 1 to 4; any other byte falls under refusal 3
+-- the norm type of a byte (item 02); a byte that names none, which refusal 3 turns away, is read as a power
 unfoldable pub normTypeOf : ℕ → NormType
 normTypeOf n = cond (eqb n 1) Commitment (cond (eqb n 2) Authorization (cond (eqb n 3) Prohibition Power))
 
--- a stage's event; none where the form names no stage
+-- a stage's event, if the form names a stage (item 03, forms 1 to 5)
 unfoldable pub stageEvent : StageForm → ℕ → Option Event
 stageEvent (Is s) number = some (StageOf s number)
 stageEvent NotAStage number = none
 
--- an event: form 0 is an event kind, forms 1 to 5 are stages of the schema with that number
+-- an event from its form and number (item 03)
 unfoldable pub eventOf : ℕ → ℕ → Option Event
 eventOf form number = cond (eqb form 0) (some (Kind number)) (stageEvent (stageOf form) number)
 
--- a bound, from its place: sign, form, number, 32-bit offset. Sign 0 is plain, 1 plus, 2 minus, 3 open
+-- a bound from its place in the body (item 03, signs 0 to 3)
 unfoldable pub boundOf : List ℕ → ℕ → Option Bound
 boundOf s at =
     let sign = byteAt s at in
     let event = eventOf (byteAt s (at + 1)) (byteAt s (at + 2)) in
     let offset = numberAt 4 s (at + 3) in
     cond (eqb sign 0) (some (Plain offset))
-    (cond (eqb sign 1) (andThen event λ e. some (Plus e offset))
-    (cond (eqb sign 2) (andThen event λ e. some (Minus e offset))
+    (cond (eqb sign 1) (bind event λ e. some (Plus e offset))
+    (cond (eqb sign 2) (bind event λ e. some (Minus e offset))
     (cond (eqb sign 3) (some Open)
     none)))
 
--- item 03: event, lower bound, upper bound
+-- a leaf from its body (item 03)
 unfoldable pub leafOf : List ℕ → Option Leaf
 leafOf body =
-    andThen (eventOf (byteAt body 0) (byteAt body 1)) λ e.
-    andThen (boundOf body 2) λ l.
-    andThen (boundOf body 9) λ u.
+    bind (eventOf (byteAt body 0) (byteAt body 1)) λ e.
+    bind (boundOf body 2) λ l.
+    bind (boundOf body 9) λ u.
     some (record { event = e; lower = l; upper = u })
 
--- an expression that neither occurs nor fails: no record is of kind 256. It stands for a leaf that refusal 3 turns away
+-- what a leaf that refusal 3 turns away stands for: it neither occurs nor fails, since no record is of kind 256
 unfoldable pub neither : Expr Leaf
 neither = leaf (record { event = Kind 256; lower = Plain 0; upper = Open })
 
--- the expression that a leaf's body stands for
+-- the expression that a leaf's body stands for (item 03)
 unfoldable pub leafFrom : List ℕ → Expr Leaf
 leafFrom body = elim (leafOf body) [ none ↦ neither | some x ↦ leaf x ]
 
--- the expression that items stand for
+-- the expression that items stand for (items 03 to 07)
 unfoldable pub exprFrom : Expr (List ℕ) → Expr Leaf
 exprFrom (leaf body) = leafFrom body
 exprFrom (and a b) = and (exprFrom a) (exprFrom b)
@@ -75,7 +75,7 @@ exprFrom (or a b) = or (exprFrom a) (exprFrom b)
 exprFrom (except a b) = except (exprFrom a) (exprFrom b)
 exprFrom always = always
 
--- item 02 and its expressions: norm type, subject kind, attributes of the privileged and of the liable party
+-- a schema from its items (item 02)
 unfoldable pub schemaFrom : SchemaItems → Schema
 schemaFrom x = record {
   type = normTypeOf (byteAt (x .head) 0);
@@ -87,36 +87,36 @@ schemaFrom x = record {
   consequent = exprFrom (x .consequent);
 }
 
--- the terms that a file stands for
+-- the terms that a file stands for (Terms items)
 unfoldable pub termsFrom : TermsFile → Terms
 termsFrom file = record { kinds = map kindFrom (file .kinds); schemas = map schemaFrom (file .schemas) }
 
--- a number that has to be zero is not
+-- a required zero is not zero (table, 3)
 unfoldable pub notZero : ℕ → Bool
 notZero n = not (eqb n 0)
 
--- the largest offset
+-- the largest offset (table, 3)
 unfoldable pub offsetLimit : ℕ
 offsetLimit = 2147483647
 
--- refusal 3 at an item 01: kind number not its place, mask 0, key not in mask
+-- refusal 3 at an item 01: its number, its mask, its key
 unfoldable pub kindWrong : ℕ → List ℕ → Bool
 kindWrong i body =
     let kind = kindFrom body in
     not (eqb (byteAt body 0) i) || eqb (kind .mask) 0 || not (carries (kind .mask) (kind .key))
 
--- refusal 3 at an item 02: type, undeclared kind, party not carried by the subject kind
+-- refusal 3 at an item 02: its type, its subject kind, its parties
 unfoldable pub headWrong : Terms → List ℕ → Bool
 headWrong terms head =
     let mask = kindAt terms (byteAt head 1) .mask in
     eqb (byteAt head 0) 0 || ltb 4 (byteAt head 0) || leb (length (terms .kinds)) (byteAt head 1)
     || not (carries mask (byteAt head 2)) || not (carries mask (byteAt head 3))
 
--- refusal 3 at an event: form, undeclared kind
+-- refusal 3 at an event; a stage of a schema that is not there falls under 4
 unfoldable pub eventWrong : Terms → ℕ → ℕ → Bool
 eventWrong terms form number = ltb 5 form || (eqb form 0 && leb (length (terms .kinds)) number)
 
--- refusal 3 at a bound: sign, event, offset, required zeros
+-- refusal 3 at a bound, sign by sign
 unfoldable pub boundWrong : Terms → List ℕ → ℕ → Bool
 boundWrong terms s at =
     let sign = byteAt s at in
@@ -129,14 +129,14 @@ boundWrong terms s at =
     (cond (eqb sign 3) (notZero form || notZero number || notZero offset)
     true)))
 
--- refusal 3 at an item 03; sign 3 is for the upper bound only
+-- refusal 3 at an item 03; a lower bound is not open
 unfoldable pub leafWrong : Terms → List ℕ → Bool
 leafWrong terms body =
     eventWrong terms (byteAt body 0) (byteAt body 1)
     || eqb (byteAt body 2) 3 || boundWrong terms body 2
     || boundWrong terms body 9
 
--- refusal 3 at a schema
+-- refusal 3 at a schema, its leaves included
 unfoldable pub schemaWrong : Terms → SchemaItems → Bool
 schemaWrong terms x =
     headWrong terms (x .head)
@@ -144,27 +144,27 @@ schemaWrong terms x =
     || anyOf (leafWrong terms) (leaves (x .detach))
     || anyOf (leafWrong terms) (leaves (x .consequent))
 
--- refusal 3: a field is out of range
+-- refusal 3 anywhere in the file (table, 3)
 unfoldable pub fieldWrong : TermsFile → Bool
 fieldWrong file =
     anyOf (λ i. kindWrong i (getD (file .kinds) i [])) (numbersFrom 0 (length (file .kinds)))
     || anyOf (schemaWrong (termsFrom file)) (file .schemas)
 
--- an event that cites a stage of rank k or higher
+-- whether an event cites a stage that does not rank below k (Citation)
 unfoldable pub citesFrom : ℕ → Event → Bool
 citesFrom k (Kind n) = false
 citesFrom k (StageOf s j) = leb k (rank s j)
 
--- an event whose kind shares no attribute with the subject kind
+-- whether an event's kind and the subject kind have no attribute in common (table, 5)
 unfoldable pub sharesNone : Terms → ℕ → Event → Bool
 sharesNone terms subject e =
     not (anyOf (bothCarry (kindAt terms (kindOf terms e) .mask) (kindAt terms subject .mask)) (numbersFrom 0 attributes))
 
--- whether some event of an expression passes a test, bounds included
+-- whether some event of an expression, in a leaf or in a bound, passes a test
 unfoldable pub anyEvent : (Event → Bool) → Expr Leaf → Bool
 anyEvent p x = anyOf (λ l. anyOf p (leafEvents l)) (leaves x)
 
--- refusal 4: a citation of equal or higher rank; schema n's clauses rank 3n, 3n+1 and 3n+2
+-- refusal 4: some clause cites a stage that does not rank below it (table, 4)
 unfoldable pub citationWrong : Terms → Bool
 citationWrong terms =
     anyOf (λ n.
@@ -173,7 +173,7 @@ citationWrong terms =
     || anyEvent (citesFrom (3 * n + 2)) (schemaAt terms n .consequent))
     (numbersFrom 0 (length (terms .schemas)))
 
--- refusal 5: a leaf or bound event whose kind shares no attribute with the subject kind
+-- refusal 5: some event has nothing to correlate by (table, 5)
 unfoldable pub unsharedEvent : Terms → Bool
 unsharedEvent terms =
     anyOf (λ (x : Schema).

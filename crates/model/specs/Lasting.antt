@@ -5,7 +5,8 @@ use mathlib.Core.Path.{_≡_}
 use mathlib.Core.List.{List, [], _∷_, flatten}
 use lib.ListN.{length, take}
 use Rattle.model.specs.Rows.{strike}
-use Rattle.model.specs.Records.{stampIn, readLog, rowLength, timeIn, rowsIn}
+use Rattle.model.specs.Bytes.{pieces}
+use Rattle.model.specs.Records.{stampIn, readLog, rowLength, timeIn}
 use Rattle.model.specs.Calls.{termsOf, Outcome, append, report}
 
 -- accepted: the outcome's number is 0
@@ -46,19 +47,19 @@ NoneBefore w terms m held (event ∷ events) =
 unfoldable pub reportOn : ℕ → List ℕ → HeldLog → ℕ → List ℕ → Outcome
 reportOn w terms held m page = report w terms (held .buffer) (held .used) m page
 
--- a given report's rows: the first rowLength × count bytes of the page afterwards
+-- the bytes of a given report's rows, as the call left them on the page
 unfoldable pub rowsGiven : ℕ → Outcome → List ℕ
 rowsGiven w o = take (rowLength w * o .answer .value) (o .left)
 
--- the rows of a later report that are left when those timed m or later are struck, by the last four bytes of each
+-- the rows of a later report, cut apart on its page, without those timed m or later
 unfoldable pub rowsLeft : ℕ → ℕ → Outcome → List (List ℕ)
-rowsLeft w m o = strike (timeIn w) m (rowsIn w (o .answer .value) (o .left))
+rowsLeft w m o = strike (timeIn w) m (pieces (rowLength w) (o .answer .value) (o .left))
 
--- what remains of a later report is the earlier one: byte for byte, its count the number of rows left
+-- the later report, struck, has the earlier one's bytes and its number of rows
 pub record Remains (w m : ℕ) (earlier later : Outcome) : Type 0 where
-  -- the gaps closed
+  -- the rows left, one behind another
   pub same-bytes : flatten (rowsLeft w m later) ≡ rowsGiven w earlier
-  -- the count
+  -- how many are left
   pub same-count : length (rowsLeft w m later) ≡ earlier .answer .value
 
 -- demand 3, first half

@@ -16,9 +16,9 @@ use Rattle.model.specs.Stages.{stages}
 use Rattle.model.specs.Lists.{numbersFrom}
 use Rattle.model.specs.Terms.{Terms, schemaAt}
 use Rattle.model.specs.Log.{Record, Log, valueOf, keyOf}
-use Rattle.model.specs.Meaning.{time}
+use Rattle.model.specs.Meaning.{stageTime}
 
--- a row of a report
+-- a row (call 4)
 pub record Row : Type 0 where
   -- the stage
   pub stage : Stage
@@ -33,7 +33,7 @@ pub record Row : Type 0 where
   -- since which minute
   pub time : ℕ
 
--- the row of a subject's stage at the minute t
+-- the row of a subject's stage at the minute t (call 4)
 unfoldable pub rowOf : Terms → ℕ → Record → Stage → ℕ → Row
 rowOf terms j subject s t = record {
   stage = s;
@@ -44,54 +44,54 @@ rowOf terms j subject s t = record {
   time = t;
 }
 
--- one row where there is a time, else none
+-- one row where there is a time, else none (call 4)
 unfoldable pub rowAt : (ℕ → Row) → Time → List Row
 rowAt f (At t) = f t ∷ []
 rowAt f Never = []
 
--- whether a record is a subject of schema j
+-- whether a record is a subject of schema j ('When things happen', first sentence)
 unfoldable pub isSubject : Terms → ℕ → Record → Bool
 isSubject terms j r = eqb (r .kind) (schemaAt terms j .subject)
 
--- the rows of a record under schema j, in the order of the stages: none if it is no subject
+-- the rows of a record under schema j, stage by stage (call 4)
 unfoldable pub subjectRows : Terms → Log → ℕ → Record → List Row
 subjectRows terms log j r = elim (isSubject terms j r) [
-  | true ↦ flatMap (λ s. rowAt (rowOf terms j r s) (time terms log s j r)) stages
+  | true ↦ flatMap (λ s. rowAt (rowOf terms j r s) (stageTime terms log s j r)) stages
   | false ↦ []
 ]
 
--- all timed rows of a log: for each schema, each subject in log order, each stage 1 to 5
+-- every row that a log has, in the order of a report (call 4)
 unfoldable pub timedRows : Terms → Log → List Row
 timedRows terms log = flatMap (λ j. flatMap (subjectRows terms log j) log) (numbersFrom 0 (length (terms .schemas)))
 
--- rows timed m or later are struck out; the others keep their order
+-- what is timed m or later is struck out; the rest stays in its order (words of demand 3)
 unfoldable pub strike : {A : Type 0} → (A → ℕ) → ℕ → List A → List A
 strike timed m [] = []
 strike timed m (x ∷ rows) = cond (ltb (timed x) m) (x ∷ strike timed m rows) (strike timed m rows)
 
--- the rows of a report at the moment m: those timed before it
+-- the rows of a report at the moment m (call 4)
 unfoldable pub reportRows : Terms → Log → ℕ → List Row
 reportRows terms log m = strike (λ (x : Row). x .time) m (timedRows terms log)
 
--- the first record that passes a test
+-- the first record that passes a test (call 5)
 unfoldable pub find : (Record → Bool) → Log → Option Record
 find p [] = none
 find p (r ∷ log) = cond (p r) (some r) (find p log)
 
--- the subject of schema j with a key, stamped before the moment
+-- the subject of schema j with a key, stamped before the moment (call 5; table, 16)
 unfoldable pub subjectOf : Terms → Log → ℕ → ℕ → ℕ → Option Record
 subjectOf terms log j key m = find (λ r. isSubject terms j r && eqb (keyOf terms r) key && ltb (r .stamp) m) log
 
--- five entries not yet
+-- five entries not yet (call 5)
 unfoldable pub notYet : Entries
 notYet = record { created = Never; detached = Never; expired = Never; discharged = Never; violated = Never }
 
--- a subject's five entries: each stage's time where it is before the moment, else not yet
+-- a subject's five entries at the moment m (call 5)
 unfoldable pub entriesOf : Terms → Log → ℕ → ℕ → Record → Entries
 entriesOf terms log m j subject = record {
-  created = before m (time terms log Created j subject);
-  detached = before m (time terms log Detached j subject);
-  expired = before m (time terms log Expired j subject);
-  discharged = before m (time terms log Discharged j subject);
-  violated = before m (time terms log Violated j subject);
+  created = before m (stageTime terms log Created j subject);
+  detached = before m (stageTime terms log Detached j subject);
+  expired = before m (stageTime terms log Expired j subject);
+  discharged = before m (stageTime terms log Discharged j subject);
+  violated = before m (stageTime terms log Violated j subject);
 }

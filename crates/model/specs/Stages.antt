@@ -1,4 +1,4 @@
--- The five stages and their numbers. Document 01, 'Terms and log': forms 1 to 5. Assumes nothing: these are definitions.
+-- The five stages and their numbers. Document 01, 'Terms and log', item 03; 'Calls', 4. Assumes nothing: these are definitions.
 use Prim.Native.Nat.{ℕ}
 use mathlib.Core.Bool.{cond}
 use mathlib.Core.List.{List, [], _∷_}
@@ -8,7 +8,7 @@ use Rattle.model.specs.declared.Stage.the-variants.{Created, Detached, E
 use Rattle.model.specs.declared.StageForm.{StageForm}
 use Rattle.model.specs.declared.StageForm.the-variants.{Is, NotAStage}
 
--- a stage's number, in a form byte and in a row
+-- a stage's number, in a form byte and in a row (item 03; row)
 abbrev pub stageNumber : Stage → ℕ
 stageNumber Created = 1
 stageNumber Detached = 2
@@ -16,7 +16,7 @@ stageNumber Expired = 3
 stageNumber Discharged = 4
 stageNumber Violated = 5
 
--- the stage that a form byte names
+-- the stage that a form byte names (item 03)
 abbrev pub stageOf : ℕ → StageForm
 stageOf form =
     cond (eqb form 1) (Is Created)
@@ -26,6 +26,6 @@ stageOf form =
     (cond (eqb form 5) (Is Violated)
     NotAStage))))
 
--- the stages 1 to 5, in that order
+-- the stages in the order of their numbers (call 4)
 unfoldable pub stages : List Stage
 stages = Created ∷ Detached ∷ Expired ∷ Discharged ∷ Violated ∷ []

@@ -1,5 +1,5 @@
 -- Terms: event kinds and norm schemas, as accepted bytes stand for them. Nothing here knows of bytes or lengths.
--- Document 01, 'Terms and log'. Assumes nothing: these are definitions.
+-- Document 01, 'Terms and log', 'Terms items', 'Grammar' and 'Citation'. Assumes nothing: these are definitions.
 use Prim.Native.Nat.{ℕ, _+_, _*_}
 use mathlib.Core.List.{List, [], _∷_, _++_}
 use lib.ListN.{getD}
@@ -13,20 +13,20 @@ use Rattle.model.specs.declared.Bound.{Bound}
 use Rattle.model.specs.declared.Bound.the-variants.{Plain, Plus, Minus, Open}
 use Rattle.model.specs.declared.Leaf.{Leaf}
 
--- item 01: an event kind
+-- an event kind (item 01)
 pub record EventKind : Type 0 where
   -- bit a is set where the kind carries the attribute a
   pub mask : ℕ
   -- the key attribute
   pub key : ℕ
 
--- items 03 to 07: an expression over leaves of type A
+-- an expression over leaves of type A (items 03 to 07)
 pub data Expr (A : Type 0) : Type 0 where
   leaf : A → Expr A
   and or except : Expr A → Expr A → Expr A
   always : Expr A
 
--- item 02 and the three expressions behind it: a norm schema
+-- a norm schema (item 02 and the three expressions behind it)
 pub record Schema : Type 0 where
   -- commitment, authorization, prohibition or power
   pub type : NormType
@@ -43,18 +43,18 @@ pub record Schema : Type 0 where
   -- the clause u
   pub consequent : Expr Leaf
 
--- kinds and schemas, each told by its place
+-- terms (Grammar): kinds and schemas, each told by its place
 pub record Terms : Type 0 where
   -- the items 01, in file order
   pub kinds : List EventKind
   -- the schemas, in file order
   pub schemas : List Schema
 
--- the kind with a number; past the last one a kind that carries nothing
+-- the kind with a number (item 01); past the last one a kind that carries nothing
 unfoldable pub kindAt : Terms → ℕ → EventKind
 kindAt terms k = getD (terms .kinds) k (record { mask = 0; key = 0 })
 
--- the schema with a number; past the last one a schema that accepted terms never refer to
+-- the schema with a number (item 03); past the last one a schema to which accepted terms never refer
 unfoldable pub schemaAt : Terms → ℕ → Schema
 schemaAt terms j = getD (terms .schemas) j (record {
   type = Commitment;
@@ -66,12 +66,12 @@ schemaAt terms j = getD (terms .schemas) j (record {
   consequent = always;
 })
 
--- the kind of the records by which an event happens: for a stage, its schema's subject kind
+-- the kind of the records by which an event happens (table, 5)
 unfoldable pub kindOf : Terms → Event → ℕ
 kindOf terms (Kind k) = k
 kindOf terms (StageOf s j) = schemaAt terms j .subject
 
--- Citation: created of schema j ranks 3j; detached and expired, 3j+1; discharged and violated, 3j+2
+-- a stage ranks with the last clause on which it depends (Citation)
 unfoldable pub rank : Stage → ℕ → ℕ
 rank Created j = 3 * j
 rank Detached j = 3 * j + 1
@@ -79,7 +79,7 @@ rank Expired j = 3 * j + 1
 rank Discharged j = 3 * j + 2
 rank Violated j = 3 * j + 2
 
--- the leaves of an expression, from left to right
+-- the leaves of an expression, from left to right (item 03)
 unfoldable pub leaves : {A : Type 0} → Expr A → List A
 leaves (leaf x) = x ∷ []
 leaves (and a b) = leaves a ++ leaves b
@@ -87,13 +87,13 @@ leaves (or a b) = leaves a ++ leaves b
 leaves (except a b) = leaves a ++ leaves b
 leaves always = []
 
--- the event of a bound, if it has one
+-- the event of a bound, if it has one (item 03)
 unfoldable pub boundEvents : Bound → List Event
 boundEvents (Plain n) = []
 boundEvents (Plus e n) = e ∷ []
 boundEvents (Minus e n) = e ∷ []
 boundEvents Open = []
 
--- the events that a leaf refers to, bounds included
+-- the events to which a leaf refers, those of its bounds included (Citation; table, 5)
 unfoldable pub leafEvents : Leaf → List Event
 leafEvents x = x .event ∷ (boundEvents (x .lower) ++ boundEvents (x .upper))

@@ -6,42 +6,42 @@ use lib.Dec.{leb, ltb}
 use Rattle.model.specs.declared.Time.{Time}
 use Rattle.model.specs.declared.Time.the-variants.{At, Never}
 
--- the later of two times: both are needed
+-- the later of two times, none if one is none (expressions, and)
 unfoldable pub laterOf : Time → Time → Time
 laterOf (At a) (At b) = At (max a b)
 laterOf (At a) Never = Never
 laterOf Never t = Never
 
--- the earlier of two times: either will do
+-- the earlier of two times, the other if one is none (expressions, or)
 unfoldable pub earlierOf : Time → Time → Time
 earlierOf (At a) (At b) = At (min a b)
 earlierOf (At a) Never = At a
 earlierOf Never t = t
 
--- the time where it is before the minute m, else none: what a moment or an upper bound (excluded) lets through
+-- a time where it is before the minute m, else none (leaf occurs, upper bound; call 4, moment)
 unfoldable pub before : ℕ → Time → Time
 before m (At n) = cond (ltb n m) (At n) Never
 before m Never = Never
 
--- the time where it is l or later, else none: what a lower bound (included) lets through
+-- a time where it is l or later, else none (leaf occurs, lower bound)
 unfoldable pub from : ℕ → Time → Time
 from l (At n) = cond (leb l n) (At n) Never
 from l Never = Never
 
--- what f gives of a known-time, and not before that known-time; nothing where it is not known
+-- what f makes of a known-time, but not before it; none where nothing is known (bounds, leaves)
 unfoldable pub onceKnown : Time → (ℕ → Time) → Time
 onceKnown (At g) f = laterOf (At g) (f g)
 onceKnown Never f = Never
 
--- a where t is none, else b
+-- a where t is none, else b (leaf fails)
 unfoldable pub ifNever : Time → Time → Time → Time
 ifNever Never a b = a
 ifNever (At n) a b = b
 
--- the last minute that a time can have
+-- the last minute that a time can have (limit)
 unfoldable pub lastMinute : ℕ
 lastMinute = 4294967294
 
--- a minute as a time: anything past the last minute counts as never
+-- a minute as a time, or none where it is past the last (limit)
 unfoldable pub cut : ℕ → Time
 cut n = cond (leb n lastMinute) (At n) Never

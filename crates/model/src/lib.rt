@@ -120,22 +120,42 @@ pub struct Leaf {
     pub upper: Bound,
 }
 
-// What a check answers. A refusal carries its number.
+// Why a call is refused, in the order of the table.
+pub enum Refusal {
+    TermsTooLong,
+    BrokenGrammar,
+    FieldOutOfRange,
+    CitationTooHigh,
+    NothingShared,
+    UsedTooLong,
+    BrokenRecord,
+    StampFalls,
+    KeyRepeats,
+    PageTooShort,
+    NotOneRecord,
+    StampTooLow,
+    KeyPresent,
+    NoRoom,
+    NoSchema,
+    NoSubject,
+}
+
+// What a check answers.
 pub enum Checked {
     Accepted,
-    Refused(u8),
+    Refused(Refusal),
 }
 
 // What an append answers: the new used length.
 pub enum Appended {
     Length(usize),
-    Refused(u8),
+    Refused(Refusal),
 }
 
 // What a report answers: how many rows it wrote.
 pub enum Reported {
     Count(usize),
-    Refused(u8),
+    Refused(Refusal),
 }
 
 // The five entries of a standing. Never stands for not yet.
@@ -150,5 +170,5 @@ pub struct Entries {
 // What a standing answers.
 pub enum Standing {
     Shown(Entries),
-    Refused(u8),
+    Refused(Refusal),
 }
