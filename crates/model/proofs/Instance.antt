@@ -5,14 +5,15 @@ use native.Mathlib.Omega.{arith}
 use mathlib.Core.Path.{_≡_, refl}
 use mathlib.Core.List.{List, [], _∷_, _++_, flatten}
 use lib.ListN.{length}
+use Rattle.model.specs.Records.{valueWidth}
 use Rattle.model.specs.Calls.{append}
 use Rattle.model.specs.Lasting.{Accepted, HeldLog, afterAppends, NoneBefore, reportOn, rowsGiven, rowsLeft}
 use Rattle.model.proofs.Computes.{computes}
-use Rattle.model.proofs.Sample.{terms, log, writing, page, row}
+use Rattle.model.proofs.Sample.{terms, log, writing, rest, row}
 
 -- the sample log in a buffer of 80 bytes
 abbrev held : HeldLog
-held = record { buffer = log 45 ++ page 24; used = 56 }
+held = record { buffer = log 45 ++ rest 24; used = 56 }
 
 -- Written (5, 3) at 44, then at 45
 abbrev events : List (List ℕ)
@@ -20,24 +21,24 @@ events = writing 44 3 ∷ writing 45 3 ∷ []
 
 -- the held log after both
 abbrev after : HeldLog
-after = afterAppends 4 terms held events
+after = afterAppends valueWidth terms held events
 
 -- the premises of demand 3 hold, the first append is refused with 12, the second is accepted, and a row is struck
 pub record Instance : Type 0 where
   -- the report at 45
-  pub given : Accepted (reportOn 4 terms held 45 (page 54))
+  pub given : Accepted (reportOn valueWidth terms held 45 (rest 54))
   -- one refused, one stamped 45
-  pub none-before : NoneBefore 4 terms 45 held events
+  pub none-before : NoneBefore valueWidth terms 45 held events
   -- the refused one
-  pub refused : append 4 terms (held .buffer) (held .used) (writing 44 3) .answer .number ≡ 12
+  pub refused : append valueWidth terms (held .buffer) (held .used) (writing 44 3) .answer .number ≡ 12
   -- the used length afterwards
   pub used : after .used ≡ 69
   -- the report at 46
-  pub later : Accepted (reportOn 4 terms after 46 (page 60))
+  pub later : Accepted (reportOn valueWidth terms after 46 (rest 60))
   -- of its three rows two are left
-  pub counts : (reportOn 4 terms after 46 (page 60) .answer .value ≡ 3) × (length (rowsLeft 4 45 (reportOn 4 terms after 46 (page 60))) ≡ 2)
+  pub counts : (reportOn valueWidth terms after 46 (rest 60) .answer .value ≡ 3) × (length (rowsLeft valueWidth 45 (reportOn valueWidth terms after 46 (rest 60))) ≡ 2)
   -- which are the rows given at 45
-  pub rows : (flatten (rowsLeft 4 45 (reportOn 4 terms after 46 (page 60))) ≡ row 1 10 ++ row 2 30) × (rowsGiven 4 (reportOn 4 terms held 45 (page 54)) ≡ row 1 10 ++ row 2 30)
+  pub rows : (flatten (rowsLeft valueWidth 45 (reportOn valueWidth terms after 46 (rest 60))) ≡ row 1 10 ++ row 2 30) × (rowsGiven valueWidth (reportOn valueWidth terms held 45 (rest 54)) ≡ row 1 10 ++ row 2 30)
 
 pub instance : Instance
 unfolding computes

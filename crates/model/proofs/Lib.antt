@@ -27,4 +27,5 @@ pub mod RowsSame
 pub mod Lasts
 pub mod Computes
 pub mod Sample
+pub mod Readings
 pub mod Instance
