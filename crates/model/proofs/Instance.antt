@@ -1,6 +1,6 @@
 -- Demand 3 speaks of something: an instance on the sample share that computes. A report at 45 is given; an append stamped 44 is refused, one
 -- stamped 45 accepted; the report at 46 has one row more, which is struck. Assumes nothing.
-use Prim.Native.Nat.{ℕ, _≤_}
+use Prim.Native.Nat.{ℕ}
 use native.Mathlib.Omega.{arith}
 use mathlib.Core.Path.{_≡_, refl}
 use mathlib.Core.List.{List, [], _∷_, _++_, flatten}

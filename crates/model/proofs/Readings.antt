@@ -1,7 +1,7 @@
 -- Words of document 01 that could be read in a second way and that its sample leaves open: lists of calls, each call beside the outcome that the
 -- words give, closed by computation. A1 to C6 number these readings. Beside them stand each refusal with its nearest accepted neighbour, each type
 -- of norm, each sign of a bound, and the order of rows. The expected outcomes are written from the document. Assumes nothing.
-use Prim.Native.Nat.{ℕ, zero, suc, _+_, _-_, _*_, _/_, _%_}
+use Prim.Native.Nat.{ℕ, zero, suc, _-_, _*_, _/_, _%_}
 use mathlib.Core.Path.{refl}
 use mathlib.Core.List.{List, [], _∷_, _++_, flatMap, flatten}
 use lib.ListN.{length, replicate}

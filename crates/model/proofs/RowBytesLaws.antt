@@ -1,11 +1,11 @@
 -- Rows in bytes: their length, the time in their last four bytes, and rows one behind another on a page. For every width w of a value.
 -- Assumes nothing.
-use Prim.Native.Nat.{ℕ, zero, suc, _+_, _*_, _^_, _≤_, _<_}
+use Prim.Native.Nat.{ℕ, _+_, _*_, _^_, _<_}
 use native.Mathlib.Nat.{mul-suc}
 use native.Mathlib.Omega.{arith}
 use mathlib.Core.Path.{_≡_, refl}
 use mathlib.Core.List.{List, [], _∷_, _++_, map, flatMap, append-assoc}
-use lib.ListN.{length, take, drop, length-append}
+use lib.ListN.{length, length-append}
 use lib.Seq.{take-at, drop-at, take-all}
 use Rattle.model.specs.Stages.{stageNumber}
 use Rattle.model.specs.Rows.{Row}

@@ -5,7 +5,7 @@ use mathlib.Core.Bool.{Bool, true, false, cond, not, _&&_, _||_}
 use mathlib.Core.List.{List, [], map}
 use mathlib.Core.Option.{Option, none, some, bind}
 use lib.Dec.{leb, ltb, eqb}
-use lib.ListN.{length, getD, drop}
+use lib.ListN.{length, getD}
 use Rattle.model.specs.declared.StageForm.{StageForm}
 use Rattle.model.specs.declared.StageForm.the-variants.{Is, NotAStage}
 use Rattle.model.specs.declared.NormType.{NormType}

@@ -1,4 +1,10 @@
--- What a reader must believe. Meaning: Time, Stages, Terms, Log, Meaning, Rows. Bytes: Bytes, Grammar, Fields, Records. Calls: Answers, Calls, Lasting.
+-- What a reader must believe, in three layers. Meaning: Time, Stages, Terms, Log, Meaning, Rows. Bytes: Bytes, Grammar, Fields, Records.
+-- Calls: Answers, Calls, and Lasting, the statement of demand 3.
+--
+-- Each file names the sections of document 01 that it stands for; the words in brackets behind a comment name the place:
+--     'Terms and log'         item 01 to item 07, Grammar, Citation, log record
+--     'When things happen'    correlation, happenings, bounds, leaf occurs, leaf fails, expressions, stages, limit: its paragraphs, in that order
+--     'Calls'                 call 1 to call 5, row, table N (the line of refusal N), behind the table, words of demand 3
 pub mod Lists
 pub mod Time
 pub mod Stages

@@ -1,7 +1,7 @@
 -- When things happen, for one subject: events, bounds, leaves, expressions and the five stages.
 -- Document 01, 'When things happen', and 'Citation' of 'Terms and log'. Assumes nothing: these are definitions.
 use Prim.Native.Nat.{ℕ, zero, suc, _+_, _-_, _*_}
-use mathlib.Core.Bool.{true, false, cond, _&&_}
+use mathlib.Core.Bool.{true, false, _&&_}
 use mathlib.Core.List.{[], _∷_}
 use lib.Dec.{eqb, ltb}
 use Rattle.model.specs.declared.Time.{Time}
@@ -16,7 +16,7 @@ use Rattle.model.specs.declared.Bound.{Bound}
 use Rattle.model.specs.declared.Bound.the-variants.{Plain, Plus, Minus, Open}
 use Rattle.model.specs.declared.Leaf.{Leaf}
 use Rattle.model.specs.Time.{laterOf, earlierOf, before, from, onceKnown, ifNever, cut}
-use Rattle.model.specs.Terms.{Terms, Schema, Expr, leaf, and, or, except, always, kindOf, schemaAt, rank}
+use Rattle.model.specs.Terms.{Terms, Expr, leaf, and, or, except, always, kindOf, schemaAt, rank}
 use Rattle.model.specs.Log.{Record, Log, correlate}
 
 -- times of stages: of a stage of a schema, for a subject
