@@ -3,6 +3,7 @@
 use Prim.Native.Nat.{ℕ, _+_, _-_, _≤_, _<_}
 use native.Mathlib.Omega.{arith}
 use mathlib.Core.Path.{_≡_, refl, ap}
+use mathlib.Core.Bool.{Bool, cond}
 use borrow.Author.Tests.{le-leb, lt-leb}
 use Rattle.model.specs.declared.Time.the-variants.{At, Never}
 use Rattle.model.specs.declared.Event.{Event}
@@ -33,9 +34,9 @@ bound-floor e n g h = ap edge (omega arith)
 -- the time at which a bound is reached is the bound's own minute, up to the last one
 pub reached-at : (r : ℕ) → r ≤ lastMinute → reached (edge r) ≡ At r
 unfolding reached cut
-reached-at r h = rw (le-leb r lastMinute h)
+reached-at r h = ap (λ (b : Bool). cond b (At r) Never) (le-leb r lastMinute h)
 
 -- past the last minute it is never reached
 pub reached-never : (r : ℕ) → lastMinute < r → reached (edge r) ≡ Never
 unfolding reached cut
-reached-never r h = rw (lt-leb r lastMinute h)
+reached-never r h = ap (λ (b : Bool). cond b (At r) Never) (lt-leb r lastMinute h)

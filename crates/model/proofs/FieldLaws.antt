@@ -1,4 +1,5 @@
--- The fields of leaves: a leaf that is written is read back, and a leaf without a field out of range is read. Assumes nothing.
+-- The fields of leaves: a leaf that is written is read back, one without a field out of range is read, any other neither occurs nor fails.
+-- Assumes nothing.
 use Prim.Native.Nat.{ℕ, zero, suc, _+_, _^_, _≤_, _<_}
 use native.Mathlib.Nat.{add-zero}
 use native.Mathlib.Omega.{arith}
@@ -15,12 +16,18 @@ use Rattle.model.specs.declared.Event.the-variants.{Kind, StageOf}
 use Rattle.model.specs.declared.Bound.{Bound}
 use Rattle.model.specs.declared.Bound.the-variants.{Plain, Plus, Minus, Open}
 use Rattle.model.specs.declared.Leaf.{Leaf}
+use Rattle.model.specs.declared.Time.the-variants.{Never}
+use Rattle.model.specs.Lists.{All}
+use Rattle.model.specs.Time.{laterOf, earlierOf, onceKnown, ifNever}
 use Rattle.model.specs.Stages.{stageNumber}
-use Rattle.model.specs.Terms.{Terms}
+use Rattle.model.specs.Terms.{Terms, kindOf}
+use Rattle.model.specs.Log.{Record, Log}
+use Rattle.model.specs.Meaning.{StageTimes, earliest, Edge, edge, endless, reached, edgeOf, happening, Times, firstWithin, known, leafOccurrence, failureAt, leafFailure, timesOf}
 use Rattle.model.specs.Bytes.{bytesOf, byteAt, numberAt}
-use Rattle.model.specs.Fields.{stageEvent, eventOf, boundOf, leafOf, notZero, offsetLimit, eventWrong, boundWrong, leafWrong}
+use Rattle.model.specs.Fields.{stageEvent, eventOf, boundOf, leafOf, neither, notZero, offsetLimit, eventWrong, boundWrong, leafWrong}
 use Rattle.model.proofs.BoolLaws.{or-false}
-use borrow.Author.Tests.{ltb-false}
+use Rattle.model.proofs.EdgeLaws.{never-within}
+use borrow.Author.Tests.{ltb-false, ne-eqb}
 use Rattle.model.proofs.NumberLaws.{bytes-length, bytes-number}
 
 -- an event's form byte and number
@@ -170,3 +177,22 @@ leaf-read terms body h =
     let l = bound-read terms body 2 (b .1) in
     let u = bound-read terms body 9 (a .1) in
     (record { event = e .0; lower = l .0; upper = u .0 }, rw (e .1, l .1, u .1))
+
+-- what neither occurs nor fails
+abbrev pub Silent : Times → Type 0
+Silent x = (x .occurs ≡ Never) × (x .fails ≡ Never)
+
+-- a kind of which a log has no record is in no window
+none-within : (times : StageTimes) (terms : Terms) (log : Log) (subject : Record) → All (λ (r : Record). r .kind < 256) log
+    → (l u : Edge) → firstWithin times terms log subject l u (Kind 256) ≡ Never
+unfolding firstWithin earliest earlierOf happening kindOf
+none-within times terms [] subject h l u = refl
+none-within times terms (r ∷ log) subject h l u =
+    rw (ne-eqb (r .kind) 256 (λ e. omega (arith, h .0, e)), happening, never-within l u) (none-within times terms log subject (h .1) l u)
+
+-- the expression for a leaf that cannot be read neither occurs nor fails, over records whose kind is a byte
+pub neither-silent : (times : StageTimes) (terms : Terms) (log : Log) (subject : Record) → All (λ (r : Record). r .kind < 256) log
+    → Silent (timesOf times terms log subject neither)
+unfolding neither timesOf leafOccurrence leafFailure failureAt known edgeOf onceKnown laterOf ifNever reached
+neither-silent times terms log subject h =
+    (rw (none-within times terms log subject h (edge 0) endless), rw (none-within times terms log subject h (edge 0) endless))
