@@ -48,7 +48,7 @@ refusal-positive x = refusal-back x .0
 pub refusal-told : (x y : Refusal) → refusalNumber x ≡ refusalNumber y → x ≡ y
 refusal-told x y e = sym (refusal-back x .1) ∙ ap (λ (n : ℕ). getD refusals (n - 1) TermsTooLong) e ∙ refusal-back y .1
 
--- a promise on number and value leaves no choice of the case: for each kind of answer
+-- a promise on number and value leaves no choice of the case: of a check
 pub checked-told : (a b : Checked) → checkedAnswer a ≡ checkedAnswer b → a ≡ b
 unfolding checkedAnswer
 checked-told checkedCase.Accepted checkedCase.Accepted e = refl
@@ -56,6 +56,7 @@ checked-told checkedCase.Accepted (checkedCase.Refused y) e = absurd (omega (ari
 checked-told (checkedCase.Refused x) checkedCase.Accepted e = absurd (omega (arith, refusal-positive x, ap (λ (r : Answer). r .number) e))
 checked-told (checkedCase.Refused x) (checkedCase.Refused y) e = ap checkedCase.Refused (refusal-told x y (ap (λ (r : Answer). r .number) e))
 
+-- of an append
 pub appended-told : (a b : Appended) → appendedAnswer a ≡ appendedAnswer b → a ≡ b
 unfolding appendedAnswer
 appended-told (appendedCase.Length n) (appendedCase.Length k) e = ap appendedCase.Length (ap (λ (r : Answer). r .value) e)
@@ -63,6 +64,7 @@ appended-told (appendedCase.Length n) (appendedCase.Refused y) e = absurd (omega
 appended-told (appendedCase.Refused x) (appendedCase.Length k) e = absurd (omega (arith, refusal-positive x, ap (λ (r : Answer). r .number) e))
 appended-told (appendedCase.Refused x) (appendedCase.Refused y) e = ap appendedCase.Refused (refusal-told x y (ap (λ (r : Answer). r .number) e))
 
+-- of a report
 pub reported-told : (a b : Reported) → reportedAnswer a ≡ reportedAnswer b → a ≡ b
 unfolding reportedAnswer
 reported-told (reportedCase.Count n) (reportedCase.Count k) e = ap reportedCase.Count (ap (λ (r : Answer). r .value) e)
@@ -70,6 +72,7 @@ reported-told (reportedCase.Count n) (reportedCase.Refused y) e = absurd (omega 
 reported-told (reportedCase.Refused x) (reportedCase.Count k) e = absurd (omega (arith, refusal-positive x, ap (λ (r : Answer). r .number) e))
 reported-told (reportedCase.Refused x) (reportedCase.Refused y) e = ap reportedCase.Refused (refusal-told x y (ap (λ (r : Answer). r .number) e))
 
+-- of a standing
 pub standing-told : (a b : Standing) → standingAnswer a ≡ standingAnswer b → a ≡ b
 unfolding standingAnswer
 standing-told (standingCase.Shown x) (standingCase.Shown y) e = ap standingCase.Shown (ap (λ (r : StandingAnswer). r .entries) e)

@@ -7,11 +7,13 @@ use Rattle.model.specs.Time.{before, from}
 use Rattle.model.specs.Meaning.{Edge, edge, endless, fromEdge, beforeEdge}
 use Rattle.model.proofs.TimeLaws.{before-from, before-comm}
 
+-- through the lower edge
 pub before-fromEdge : (m : ℕ) (l : Edge) (t : Time) → before m (fromEdge l t) ≡ fromEdge l (before m t)
 unfolding fromEdge before
 before-fromEdge m (edge l) t = before-from m l t
 before-fromEdge m endless t = refl
 
+-- through the upper edge
 pub before-beforeEdge : (m : ℕ) (u : Edge) (t : Time) → before m (beforeEdge u t) ≡ beforeEdge u (before m t)
 unfolding beforeEdge
 before-beforeEdge m (edge u) t = before-comm m u t

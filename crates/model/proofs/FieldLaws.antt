@@ -30,11 +30,12 @@ use Rattle.model.proofs.EdgeLaws.{never-within}
 use borrow.Author.Tests.{ltb-false, ne-eqb}
 use Rattle.model.proofs.NumberLaws.{bytes-length, bytes-number}
 
--- an event's form byte and number
+-- an event's form byte
 unfoldable pub formOf : Event → ℕ
 formOf (Kind k) = 0
 formOf (StageOf s j) = stageNumber s
 
+-- and its number byte
 unfoldable pub eventNumber : Event → ℕ
 eventNumber (Kind k) = k
 eventNumber (StageOf s j) = j

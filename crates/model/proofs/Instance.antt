@@ -40,6 +40,7 @@ pub record Instance : Type 0 where
   -- which are the rows given at 45
   pub rows : (flatten (rowsLeft valueWidth 45 (reportOn valueWidth terms after 46 (rest 60))) ≡ row 1 10 ++ row 2 30) × (rowsGiven valueWidth (reportOn valueWidth terms held 45 (rest 54)) ≡ row 1 10 ++ row 2 30)
 
+-- all of it by computation
 pub instance : Instance
 unfolding computes
 instance = record {

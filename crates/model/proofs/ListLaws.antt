@@ -40,12 +40,13 @@ pub all-imp : {A : Type 0} (P Q : A → Type 0) → ((x : A) → P x → Q x) �
 all-imp P Q h [] p = tt
 all-imp P Q h (x ∷ l) p = (h x (p .0), all-imp P Q h l (p .1))
 
--- Of the front and of the back of a list.
+-- Of the front of a list.
 pub all-take : {A : Type 0} (P : A → Type 0) (n : ℕ) (l : List A) → All P l → All P (take n l)
 all-take P zero l h = tt
 all-take P (suc n) [] h = tt
 all-take P (suc n) (x ∷ l) h = (h .0, all-take P n l (h .1))
 
+-- And of the back.
 pub all-drop : {A : Type 0} (P : A → Type 0) (n : ℕ) (l : List A) → All P l → All P (drop n l)
 all-drop P zero l h = h
 all-drop P (suc n) [] h = tt

@@ -16,7 +16,7 @@ use mathlib.Core.Option.{Option, none, some, Option·some-injective, bind}
 use lib.Dec.{leb, eqb}
 use lib.ListN.{length, take, drop, length-append, take-append-drop}
 use lib.Seq.{length-take-le, take-at, drop-at}
-use borrow.Author.Tests.{leb-true, eqb-true, le-leb, eq-eqb, ne-eqb}
+use borrow.Author.Tests.{leb-true, eqb-true, le-leb, eq-eqb}
 use Rattle.model.specs.Lists.{All}
 use Rattle.model.specs.Bytes.{Reader, orElse, many, item}
 
@@ -57,11 +57,6 @@ item-sound kind n (b ∷ s) {body} {t} e = go (eqb b kind) (leb n (length s)) re
 pub item-whole : (kind n : ℕ) (body t : List ℕ) → length body ≡ n → item kind n (kind ∷ (body ++ t)) ≡ some (body, t)
 unfolding item
 item-whole kind n body t e = simp (eq-eqb kind kind refl, le-leb n (length (body ++ t)) (omega (arith, length-append body t)), take-at body t n e, drop-at body t n e)
-
--- an item of another kind is not read
-pub item-other : (kind n b : ℕ) (s : List ℕ) → (b ≡ kind → ⊥) → item kind n (b ∷ s) ≡ none
-unfolding item
-item-other kind n b s h = rw (ne-eqb b kind h)
 
 module _ {A : Type 0} (reader : Reader A) where
   -- nothing read

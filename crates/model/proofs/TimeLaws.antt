@@ -5,19 +5,18 @@ use Prim.Native.Nat.{ℕ, min, max, _≤_, _<_}
 use native.Mathlib.Omega.{arith}
 use mathlib.Core.Path.{_≡_, refl, ap, _∙_}
 use mathlib.Core.Bool.{Bool, true, false, cond}
-use mathlib.Core.List.{[], _∷_, _++_}
 use lib.Dec.{leb, ltb}
 use borrow.Author.Tests.{ltb-true, ltb-false, lt-ltb, le-ltb}
 use Rattle.model.specs.declared.Time.{Time}
 use Rattle.model.specs.declared.Time.the-variants.{At, Never}
 use Rattle.model.specs.Time.{laterOf, earlierOf, before, from, onceKnown, ifNever, cut, lastMinute}
-use Rattle.model.specs.Log.{Record, Log}
-use Rattle.model.specs.Meaning.{earliest}
 
+-- a minute before m stays
 pub before-lt : (m n : ℕ) → n < m → before m (At n) ≡ At n
 unfolding before
 before-lt m n h = rw (lt-ltb n m h) refl
 
+-- a minute at m or later is taken away
 pub before-le : (m n : ℕ) → m ≤ n → before m (At n) ≡ Never
 unfolding before
 before-le m n h = rw (le-ltb n m h) refl
@@ -27,6 +26,7 @@ pub data Side (m n : ℕ) : Type 0 where
   early : n < m → Side m n
   late : m ≤ n → Side m n
 
+-- which of the two
 pub side : (m n : ℕ) → Side m n
 side m n = go (ltb n m) refl
   where
@@ -34,6 +34,7 @@ side m n = go (ltb n m) refl
     go true e = early (ltb-true n m e)
     go false e = late (ltb-false n m e)
 
+-- through the later of two times
 pub before-later : (m : ℕ) (a b : Time) → before m (laterOf a b) ≡ laterOf (before m a) (before m b)
 unfolding laterOf before
 before-later m (At a) (At b) = go (side m a) (side m b)
@@ -49,6 +50,7 @@ before-later m (At a) Never = go (side m a)
     go (late p) = rw (before-le m a p)
 before-later m Never b = refl
 
+-- through the earlier of two times
 pub before-earlier : (m : ℕ) (a b : Time) → before m (earlierOf a b) ≡ earlierOf (before m a) (before m b)
 unfolding earlierOf before
 before-earlier m (At a) (At b) = go (side m a) (side m b)
@@ -65,6 +67,7 @@ before-earlier m (At a) Never = go (side m a)
     go (late p) = rw (before-le m a p)
 before-earlier m Never b = refl
 
+-- through what waits for a known-time
 pub before-onceKnown : (m : ℕ) (t : Time) (f : ℕ → Time) → before m (onceKnown t f) ≡ onceKnown (before m t) (λ g. before m (f g))
 unfolding onceKnown before laterOf
 before-onceKnown m (At g) f = before-later m (At g) (f g) ∙ go (side m g)
@@ -74,6 +77,7 @@ before-onceKnown m (At g) f = before-later m (At g) (f g) ∙ go (side m g)
     go (late p) = rw (before-le m g p)
 before-onceKnown m Never f = refl
 
+-- through a lower bound
 pub before-from : (m l : ℕ) (t : Time) → before m (from l t) ≡ from l (before m t)
 unfolding from before
 before-from m l (At n) = go (leb l n) (ltb n m) refl refl
@@ -95,6 +99,7 @@ before-before m r h (At n) = go (side r n)
     go (late p) = rw (before-le r n p)
 before-before m r h Never = refl
 
+-- two moments in either order
 pub before-comm : (m r : ℕ) (t : Time) → before m (before r t) ≡ before r (before m t)
 unfolding before
 before-comm m r (At n) = go (side m n) (side r n)
@@ -106,6 +111,7 @@ before-comm m r (At n) = go (side m n) (side r n)
     go (late p) (late q) = rw (before-le r n q, before-le m n p)
 before-comm m r Never = refl
 
+-- what is cut at m or later is not before m
 pub before-cut : (m n : ℕ) → m ≤ n → before m (cut n) ≡ Never
 unfolding cut before lastMinute
 before-cut m n h = go (leb n lastMinute)
@@ -114,64 +120,50 @@ before-cut m n h = go (leb n lastMinute)
     go true = before-le m n h
     go false = refl
 
+-- none stays none
 pub before-never : (m : ℕ) → before m Never ≡ Never
 unfolding before
 before-never m = refl
 
+-- through a choice
 pub before-ifNever : (m : ℕ) (t a b : Time) → before m (ifNever t a b) ≡ ifNever t (before m a) (before m b)
 unfolding ifNever
 before-ifNever m Never a b = refl
 before-ifNever m (At n) a b = refl
 
+-- a choice between none and none
 pub ifNever-never : (t : Time) → ifNever t Never Never ≡ Never
 unfolding ifNever
 ifNever-never Never = refl
 ifNever-never (At n) = refl
 
+-- nothing comes of waiting for none
 pub onceKnown-never : (t : Time) → onceKnown t (λ g. Never) ≡ Never
 unfolding onceKnown laterOf
 onceKnown-never Never = refl
 onceKnown-never (At n) = refl
 
--- `earlierOf` may be regrouped, and `Never` drops out: a loop that keeps the earliest so far finds the earliest of all
-pub earlierOf-assoc : (a b c : Time) → earlierOf (earlierOf a b) c ≡ earlierOf a (earlierOf b c)
-unfolding earlierOf
-earlierOf-assoc (At a) (At b) (At c) = ap At (omega arith)
-earlierOf-assoc (At a) (At b) Never = refl
-earlierOf-assoc (At a) Never c = refl
-earlierOf-assoc Never b c = refl
-
-pub earlierOf-never : (a : Time) → earlierOf a Never ≡ a
-unfolding earlierOf
-earlierOf-never (At a) = refl
-earlierOf-never Never = refl
-
-pub earliest-append : (f : Record → Time) (a b : Log) → earliest f (a ++ b) ≡ earlierOf (earliest f a) (earliest f b)
-unfolding earliest earlierOf
-earliest-append f [] b = refl
-earliest-append f (r ∷ a) b = rw (earliest-append f a b, earlierOf-assoc)
-
-pub earliest-snoc : (f : Record → Time) (a : Log) (r : Record) → earliest f (a ++ (r ∷ [])) ≡ earlierOf (earliest f a) (f r)
-unfolding earliest
-earliest-snoc f a r = rw (earliest-append f a (r ∷ []), earlierOf-never)
-
--- what a function finds that compares two minutes
+-- what code finds that compares two minutes: the second is the later one
 pub later-right : {a b : Time} {x y : ℕ} → a ≡ At x → b ≡ At y → x < y → At y ≡ laterOf a b
 unfolding laterOf
 later-right {x = x} {y = y} p q h = rw (p, q) (ap At (omega arith))
 
+-- the first is the later one, or as late
 pub later-left : {a b : Time} {x y : ℕ} → a ≡ At x → b ≡ At y → y ≤ x → At x ≡ laterOf a b
 unfolding laterOf
 later-left {x = x} {y = y} p q h = rw (p, q) (ap At (omega arith))
 
+-- the first is the earlier one
 pub earlier-left : {a b : Time} {x y : ℕ} → a ≡ At x → b ≡ At y → x < y → At x ≡ earlierOf a b
 unfolding earlierOf
 earlier-left {x = x} {y = y} p q h = rw (p, q) (ap At (omega arith))
 
+-- the second is the earlier one, or as early
 pub earlier-right : {a b : Time} {x y : ℕ} → a ≡ At x → b ≡ At y → y ≤ x → At y ≡ earlierOf a b
 unfolding earlierOf
 earlier-right {x = x} {y = y} p q h = rw (p, q) (ap At (omega arith))
 
+-- the second is none
 pub earlier-alone : {a b : Time} {x : ℕ} → a ≡ At x → b ≡ Never → At x ≡ earlierOf a b
 unfolding earlierOf
 earlier-alone p q = rw (p, q)
