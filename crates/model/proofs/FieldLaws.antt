@@ -17,17 +17,16 @@ use Rattle.model.specs.declared.Bound.{Bound}
 use Rattle.model.specs.declared.Bound.the-variants.{Plain, Plus, Minus, Open}
 use Rattle.model.specs.declared.Leaf.{Leaf}
 use Rattle.model.specs.declared.Time.the-variants.{Never}
-use Rattle.model.specs.Lists.{All}
-use Rattle.model.specs.Time.{laterOf, earlierOf, onceKnown, ifNever}
+use Rattle.model.specs.Time.{earlierOf}
 use Rattle.model.specs.Stages.{stageNumber}
-use Rattle.model.specs.Terms.{Terms, kindOf}
+use Rattle.model.specs.Terms.{Terms}
 use Rattle.model.specs.Log.{Record, Log}
-use Rattle.model.specs.Meaning.{StageTimes, earliest, Edge, edge, endless, reached, edgeOf, happening, Times, firstWithin, known, leafOccurrence, failureAt, leafFailure, timesOf}
+use Rattle.model.specs.Meaning.{StageTimes, earliest, Edge, endless, fromEdge, reached, edgeOf, Times, firstWithin, known, leafOccurrence, failureAt, leafFailure, timesOf}
 use Rattle.model.specs.Bytes.{bytesOf, byteAt, numberAt}
 use Rattle.model.specs.Fields.{stageEvent, eventOf, boundOf, leafOf, neither, notZero, offsetLimit, eventWrong, boundWrong, leafWrong}
 use Rattle.model.proofs.BoolLaws.{or-false}
-use Rattle.model.proofs.EdgeLaws.{never-within}
-use borrow.Author.Tests.{ltb-false, ne-eqb}
+use Rattle.model.proofs.TimeLaws.{ifNever-never, onceKnown-never}
+use borrow.Author.Tests.{ltb-false}
 use Rattle.model.proofs.NumberLaws.{bytes-length, bytes-number}
 
 -- an event's form byte
@@ -95,7 +94,7 @@ bound-back (Minus e n) h t = rw (event-back e, offset-back 2 (formOf e) (eventNu
 bound-back Open h t = refl
 
 -- a bound has seven bytes
-bound-length : (b : Bound) → length (boundBytes b) ≡ 7
+pub bound-length : (b : Bound) → length (boundBytes b) ≡ 7
 unfolding boundBytes
 bound-length (Plain n) = ap (λ (k : ℕ). suc (suc (suc k))) (bytes-length 4 n)
 bound-length (Plus e n) = ap (λ (k : ℕ). suc (suc (suc k))) (bytes-length 4 n)
@@ -183,17 +182,14 @@ leaf-read terms body h =
 abbrev pub Silent : Times → Type 0
 Silent x = (x .occurs ≡ Never) × (x .fails ≡ Never)
 
--- a kind of which a log has no record is in no window
-none-within : (times : StageTimes) (terms : Terms) (log : Log) (subject : Record) → All (λ (r : Record). r .kind < 256) log
-    → (l u : Edge) → firstWithin times terms log subject l u (Kind 256) ≡ Never
-unfolding firstWithin earliest earlierOf happening kindOf
-none-within times terms [] subject h l u = refl
-none-within times terms (r ∷ log) subject h l u =
-    rw (ne-eqb (r .kind) 256 (λ e. omega (arith, h .0, e)), happening, never-within l u) (none-within times terms log subject (h .1) l u)
+-- an open lower bound lets nothing in
+none-within : (times : StageTimes) (terms : Terms) (log : Log) (subject : Record) (u : Edge) (e : Event)
+    → firstWithin times terms log subject endless u e ≡ Never
+unfolding firstWithin earliest earlierOf fromEdge
+none-within times terms [] subject u e = refl
+none-within times terms (r ∷ log) subject u e = none-within times terms log subject u e
 
--- the expression for a leaf that cannot be read neither occurs nor fails, over records whose kind is a byte
-pub neither-silent : (times : StageTimes) (terms : Terms) (log : Log) (subject : Record) → All (λ (r : Record). r .kind < 256) log
-    → Silent (timesOf times terms log subject neither)
-unfolding neither timesOf leafOccurrence leafFailure failureAt known edgeOf onceKnown laterOf ifNever reached
-neither-silent times terms log subject h =
-    (rw (none-within times terms log subject h (edge 0) endless), rw (none-within times terms log subject h (edge 0) endless))
+-- the expression for a leaf that cannot be read neither occurs nor fails
+pub neither-silent : (times : StageTimes) (terms : Terms) (log : Log) (subject : Record) → Silent (timesOf times terms log subject neither)
+unfolding neither timesOf leafOccurrence leafFailure failureAt known edgeOf reached
+neither-silent times terms log subject = (simp (none-within, onceKnown-never), simp (ifNever-never, onceKnown-never))

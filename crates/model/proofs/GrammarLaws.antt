@@ -1,7 +1,7 @@
 -- Refusal 2 exactly: bytes pass it where they are the writing of 1 to 32 kinds and 1 to 16 schemas, whatever their fields hold.
 --     size-positive               an expression has at least one item
---     exprRead, exprWhole         an expression is read exactly where its writing stands and its items are within the count
---     schemaRead, schemaWhole     the same of a schema
+--     expr-read, expr-whole         an expression is read exactly where its writing stands and its items are within the count
+--     schema-read, schema-whole     the same of a schema
 --     file-read                   what is read of any bytes is whole, within the counts, and with what is left over the bytes
 --     file-of-writing             reading what was written gives it back
 --     grammar-exact               bytes pass refusal 2 exactly where they keep the grammar
@@ -19,7 +19,7 @@ use Rattle.model.specs.Bytes.{Reader, many, item}
 use Rattle.model.specs.Terms.{Expr, leaf, and, or, except, always, leaves}
 use Rattle.model.specs.Grammar.{SchemaItems, TermsFile, size, readBoth, readExpr, kindsLimit, schemasLimit, exprLimit, readClause, readSchema, fileOf, breaksGrammar, exprBytes, schemaBytes, termsBytes, WholeExpr, WholeSchema, Grammatical}
 use Rattle.model.proofs.ListLaws.{all-append, all-split}
-use Rattle.model.proofs.Reading.{none-some, found-eq, bind-cases, orElse-cases, item-sound, item-whole, many-bytes, many-all, many-count, many-whole}
+use Rattle.model.proofs.ReaderLaws.{none-some, found-eq, bind-cases, orElse-cases, item-sound, item-whole, many-bytes, many-all, many-count, many-whole}
 
 -- an expression has at least one item, so that the grammar's '1 to 31' asks for no test of its own
 pub size-positive : {A : Type 0} (x : Expr A) → 1 ≤ size x
@@ -113,54 +113,54 @@ always-sound items s x t e =
     rw (← found .0, ← found .1) (bare-sound 7 s p, omega arith, tt)
 
 -- what is read as an expression stands there, is within the count, and has leaves of 16 bytes
-pub exprRead : (n items : ℕ) (s : List ℕ) (x : Expr (List ℕ)) (t : List ℕ) → readExpr n items s ≡ some (x, t)
+pub expr-read : (n items : ℕ) (s : List ℕ) (x : Expr (List ℕ)) (t : List ℕ) → readExpr n items s ≡ some (x, t)
     → (s ≡ exprBytes x ++ t) × (size x ≤ items) × All (λ body. length body ≡ 16) (leaves x)
 unfolding readExpr
-exprRead zero items s x t e = none-some e
-exprRead (suc n) zero s x t e = none-some e
-exprRead (suc n) (suc items) s x t e =
+expr-read zero items s x t e = none-some e
+expr-read (suc n) zero s x t e = none-some e
+expr-read (suc n) (suc items) s x t e =
     orElse-cases (leaf-sound items s x t)
-    (orElse-cases (both-sound (readExpr n) items 4 and and-is (exprRead n) s x t)
-    (orElse-cases (both-sound (readExpr n) items 5 or or-is (exprRead n) s x t)
-    (orElse-cases (both-sound (readExpr n) items 6 except except-is (exprRead n) s x t)
+    (orElse-cases (both-sound (readExpr n) items 4 and and-is (expr-read n) s x t)
+    (orElse-cases (both-sound (readExpr n) items 5 or or-is (expr-read n) s x t)
+    (orElse-cases (both-sound (readExpr n) items 6 except except-is (expr-read n) s x t)
     (always-sound items s x t)))) e
 
 -- an expression within the count, with leaves of 16 bytes, is read back from its writing; depth as much as items is enough
-pub exprWhole : (n items : ℕ) (x : Expr (List ℕ)) (t : List ℕ) → size x ≤ n → size x ≤ items → All (λ body. length body ≡ 16) (leaves x)
+pub expr-whole : (n items : ℕ) (x : Expr (List ℕ)) (t : List ℕ) → size x ≤ n → size x ≤ items → All (λ body. length body ≡ 16) (leaves x)
     → readExpr n items (exprBytes x ++ t) ≡ some (x, t)
 unfolding readExpr exprBytes size leaves item bind
-exprWhole zero items x t p q r = absurd (omega (arith, size-positive x))
-exprWhole (suc n) zero x t p q r = absurd (omega (arith, size-positive x))
-exprWhole (suc n) (suc items) (leaf body) t p q r = rw (item-whole 3 16 body t (r .0))
-exprWhole (suc n) (suc items) (and a b) t p q r = rw (both-whole (readExpr n) items 4 and and-is n (exprWhole n) a b t p q r)
-exprWhole (suc n) (suc items) (or a b) t p q r = rw (both-whole (readExpr n) items 5 or or-is n (exprWhole n) a b t p q r)
-exprWhole (suc n) (suc items) (except a b) t p q r = rw (both-whole (readExpr n) items 6 except except-is n (exprWhole n) a b t p q r)
-exprWhole (suc n) (suc items) always t p q r = rw (item-whole 7 0 [] t refl)
+expr-whole zero items x t p q r = absurd (omega (arith, size-positive x))
+expr-whole (suc n) zero x t p q r = absurd (omega (arith, size-positive x))
+expr-whole (suc n) (suc items) (leaf body) t p q r = rw (item-whole 3 16 body t (r .0))
+expr-whole (suc n) (suc items) (and a b) t p q r = rw (both-whole (readExpr n) items 4 and and-is n (expr-whole n) a b t p q r)
+expr-whole (suc n) (suc items) (or a b) t p q r = rw (both-whole (readExpr n) items 5 or or-is n (expr-whole n) a b t p q r)
+expr-whole (suc n) (suc items) (except a b) t p q r = rw (both-whole (readExpr n) items 6 except except-is n (expr-whole n) a b t p q r)
+expr-whole (suc n) (suc items) always t p q r = rw (item-whole 7 0 [] t refl)
 
-clauseRead : (s : List ℕ) (x : E) (t : List ℕ) → readClause s ≡ some (x, t) → (s ≡ exprBytes x ++ t) × WholeExpr x
+clause-read : (s : List ℕ) (x : E) (t : List ℕ) → readClause s ≡ some (x, t) → (s ≡ exprBytes x ++ t) × WholeExpr x
 unfolding readClause
-clauseRead s x t e = let found = exprRead exprLimit exprLimit s x t e in (found .0, record { items = found .1; bodies = found .2 })
+clause-read s x t e = let found = expr-read exprLimit exprLimit s x t e in (found .0, record { items = found .1; bodies = found .2 })
 
-clauseWhole : (x : E) (t : List ℕ) → WholeExpr x → readClause (exprBytes x ++ t) ≡ some (x, t)
+clause-whole : (x : E) (t : List ℕ) → WholeExpr x → readClause (exprBytes x ++ t) ≡ some (x, t)
 unfolding readClause
-clauseWhole x t whole = exprWhole exprLimit exprLimit x t (whole .items) (whole .items) (whole .bodies)
+clause-whole x t whole = expr-whole exprLimit exprLimit x t (whole .items) (whole .items) (whole .bodies)
 
 -- four writings before a fifth
 four : (a b c d t : List ℕ) → (a ++ (b ++ (c ++ d))) ++ t ≡ a ++ (b ++ (c ++ (d ++ t)))
 four a b c d t = simp append-assoc
 
 -- what is read as a schema stands there and is whole
-pub schemaRead : (s : List ℕ) (x : SchemaItems) (t : List ℕ) → readSchema s ≡ some (x, t) → (s ≡ schemaBytes x ++ t) × WholeSchema x
+pub schema-read : (s : List ℕ) (x : SchemaItems) (t : List ℕ) → readSchema s ≡ some (x, t) → (s ≡ schemaBytes x ++ t) × WholeSchema x
 unfolding readSchema schemaBytes
-schemaRead s x t e =
+schema-read s x t e =
     bind-cases (item 2 4 s) _ e λ h p e₁.
     bind-cases (readClause (h .1)) _ e₁ λ c q e₂.
     bind-cases (readClause (c .1)) _ e₂ λ r v e₃.
     bind-cases (readClause (r .1)) _ e₃ λ u w e₄.
     let head = item-sound 2 4 s p in
-    let create = clauseRead (h .1) (c .0) (c .1) q in
-    let detach = clauseRead (c .1) (r .0) (r .1) v in
-    let consequent = clauseRead (r .1) (u .0) (u .1) w in
+    let create = clause-read (h .1) (c .0) (c .1) q in
+    let detach = clause-read (c .1) (r .0) (r .1) v in
+    let consequent = clause-read (r .1) (u .0) (u .1) w in
     let found : (_ ≡ x) × (u .1 ≡ t) = found-eq e₄ in
     rw (← found .0, ← found .1) (
       cc (head .0, create .0, detach .0, consequent .0, four (h .0) (exprBytes (c .0)) (exprBytes (r .0)) (exprBytes (u .0)) (u .1)),
@@ -168,9 +168,9 @@ schemaRead s x t e =
     )
 
 -- a whole schema is read back from its writing
-pub schemaWhole : (x : SchemaItems) (t : List ℕ) → WholeSchema x → readSchema (schemaBytes x ++ t) ≡ some (x, t)
+pub schema-whole : (x : SchemaItems) (t : List ℕ) → WholeSchema x → readSchema (schemaBytes x ++ t) ≡ some (x, t)
 unfolding readSchema schemaBytes bind
-schemaWhole x t whole = simp (append-assoc, item-whole 2 4 (x .head), clauseWhole, whole .head-length, whole .create-whole, whole .detach-whole, whole .consequent-whole)
+schema-whole x t whole = simp (append-assoc, item-whole 2 4 (x .head), clause-whole, whole .head-length, whole .create-whole, whole .detach-whole, whole .consequent-whole)
 
 -- of any bytes, broken or not: what is read, written again, and what is left over are the bytes; it is within the counts and whole
 pub file-read : (s : List ℕ) → (s ≡ termsBytes (fileOf s .kinds) (fileOf s .schemas) ++ fileOf s .rest)
@@ -180,12 +180,12 @@ unfolding fileOf termsBytes
 file-read s =
     let behind = many (item 1 4) kindsLimit s .1 in (
       rw append-assoc (
-          rw (← many-bytes readSchema schemaBytes (λ s x t e. schemaRead s x t e .0) schemasLimit behind)
+          rw (← many-bytes readSchema schemaBytes (λ s x t e. schema-read s x t e .0) schemasLimit behind)
           (many-bytes (item 1 4) (λ body. 1 ∷ body) (λ s x t e. item-sound 1 4 s e .0) kindsLimit s)),
       many-count (item 1 4) kindsLimit s,
       many-count readSchema schemasLimit behind,
       many-all (item 1 4) (λ body. length body ≡ 4) (λ s x t e. item-sound 1 4 s e .1) kindsLimit s,
-      many-all readSchema WholeSchema (λ s x t e. schemaRead s x t e .1) schemasLimit behind,
+      many-all readSchema WholeSchema (λ s x t e. schema-read s x t e .1) schemasLimit behind,
     )
 
 -- a schema begins with another byte than a kind
@@ -200,7 +200,7 @@ pub file-of-writing : (kinds : List (List ℕ)) (schemas : List SchemaItems) →
 unfolding fileOf termsBytes readSchema item bind
 file-of-writing kinds schemas few few′ whole whole′ =
     let first = many-whole (item 1 4) (λ body. 1 ∷ body) (λ body. length body ≡ 4) (item-whole 1 4) kinds kindsLimit (flatMap schemaBytes schemas) whole few (no-kind schemas) in
-    let second = many-whole readSchema schemaBytes WholeSchema schemaWhole schemas schemasLimit [] whole′ few′ refl in
+    let second = many-whole readSchema schemaBytes WholeSchema schema-whole schemas schemasLimit [] whole′ few′ refl in
     rw (first, rw append-nil at second)
 
 -- refusal 2 is kept off by a kind, a schema and nothing left over

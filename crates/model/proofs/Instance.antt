@@ -7,7 +7,7 @@ use mathlib.Core.List.{List, [], _∷_, _++_, flatten}
 use lib.ListN.{length}
 use Rattle.model.specs.Records.{valueWidth}
 use Rattle.model.specs.Calls.{append}
-use Rattle.model.specs.Lasting.{Accepted, HeldLog, afterAppends, NoneBefore, reportOn, rowsGiven, rowsLeft}
+use Rattle.model.specs.Lasting.{Accepted, HeldLog, afterAppends, NoneBefore, reportOn, rowsGiven, rowsLeft, bytesBefore}
 use Rattle.model.proofs.Computes.{computes}
 use Rattle.model.proofs.Sample.{terms, log, writing, rest, row}
 
@@ -40,6 +40,23 @@ pub record Instance : Type 0 where
   -- which are the rows given at 45
   pub rows : (flatten (rowsLeft valueWidth 45 (reportOn valueWidth terms after 46 (rest 60))) ≡ row 1 10 ++ row 2 30) × (rowsGiven valueWidth (reportOn valueWidth terms held 45 (rest 54)) ≡ row 1 10 ++ row 2 30)
 
+-- two logs that differ from 45 on, neither an extension of the other
+abbrev other : HeldLog
+other = record { buffer = log 129; used = 56 }
+
+-- the premises of the second half hold too, and the reports have rows
+pub record AlikeInstance : Type 0 where
+  -- the report of the one at 45
+  pub one-given : Accepted (reportOn valueWidth terms held 45 (rest 54))
+  -- the report of the other at 45
+  pub other-given : Accepted (reportOn valueWidth terms other 45 (rest 40))
+  -- alike before 45
+  pub alike : bytesBefore valueWidth terms 45 held ≡ bytesBefore valueWidth terms 45 other
+  -- two rows each
+  pub counts : (reportOn valueWidth terms held 45 (rest 54) .answer .value ≡ 2) × (reportOn valueWidth terms other 45 (rest 40) .answer .value ≡ 2)
+  -- and not the same log
+  pub later-differ : reportOn valueWidth terms other 130 (rest 54) .left ≡ row 1 10 ++ (row 2 30 ++ row 5 129)
+
 -- all of it by computation
 pub instance : Instance
 unfolding computes
@@ -52,3 +69,8 @@ instance = record {
   counts = (refl, refl);
   rows = (refl, refl);
 }
+
+-- and this by computation
+pub alike-instance : AlikeInstance
+unfolding computes
+alike-instance = record { one-given = refl; other-given = refl; alike = refl; counts = (refl, refl); later-differ = refl }

@@ -4,42 +4,38 @@
 --     alike-same       the second half
 --     lasting          both
 -- For every width w of a value, and with no premise but the calls' own acceptance. Assumes nothing.
-use Prim.Native.Nat.{ℕ, zero, suc, _*_, _≤_}
+use Prim.Native.Nat.{ℕ, zero, suc, _≤_}
 use native.Mathlib.Omega.{arith}
 use mathlib.Core.Path.{_≡_, refl, ap, sym, subst, _∙_}
 use mathlib.Core.Bool.{true, false, not, true≢false}
 use mathlib.Core.List.{List, [], _∷_, _++_, map, flatMap, flatten, append-nil}
 use mathlib.Core.Option.{Option, none, some}
-use lib.ListN.{length, take, length-map, take-append-drop}
+use lib.ListN.{length, take, length-map}
 use borrow.Author.Tests.{le-ltb}
 use Rattle.model.specs.Lists.{All, isEmpty}
 use Rattle.model.specs.Time.{lastMinute}
 use Rattle.model.specs.Terms.{Terms}
 use Rattle.model.specs.Log.{Record}
-use Rattle.model.specs.Rows.{Row, timedRows, strike, reportRows}
-use Rattle.model.specs.Records.{stampLimit, stampIn, readRecord, recordFrom, readLog, recordsIn, rowLength, rowBytes, timeIn}
-use Rattle.model.specs.Calls.{termsOf, logOf, notOneRecord, rowsOf, Outcome, append, report}
+use Rattle.model.specs.Rows.{Row, strike}
+use Rattle.model.specs.Records.{stampIn, readRecord, recordFrom, readLog, recordsIn, rowBytes, timeIn}
+use Rattle.model.specs.Calls.{termsOf, logOf, notOneRecord, rowsOf, append, report}
 use Rattle.model.specs.Lasting.{Accepted, HeldLog, usedAfter, afterAppend, afterAppends, NoneBefore, reportOn, rowsGiven, rowsLeft, ReportLasts, bytesBefore, AlikeReportSame, Lasting}
-use Rattle.model.proofs.ListLaws.{all-imp, all-map, all-of, flatten-map}
+use Rattle.model.proofs.ListLaws.{all-imp, all-of, flatten-map}
 use Rattle.model.proofs.StrikeLaws.{strike-append, strike-all, strike-map}
 use Rattle.model.proofs.RecordLaws.{OneRecord, read-one}
-use Rattle.model.proofs.LogLaws.{log-records, log-append, records-equal}
-use Rattle.model.proofs.RowBytesLaws.{row-timed, rows-in}
+use Rattle.model.proofs.LogLaws.{empty, log-unbroken, log-records, log-append, records-equal}
+use Rattle.model.proofs.RowBytesLaws.{row-timed}
 use Rattle.model.proofs.RefusalLaws.{AppendAccepted, append-accepted}
 use Rattle.model.proofs.WriteLaws.{append-refused, ReportKeeps, report-keeps, append-keeps}
-use Rattle.model.proofs.LastMinute.{StampsFit, RowFits, row-time}
+use Rattle.model.proofs.LastMinute.{RowFits}
+use Rattle.model.proofs.AcceptedLaws.{report-times}
+use Rattle.model.proofs.PageLaws.{page-rows}
 use Rattle.model.proofs.SameBefore.{recordsBefore}
 use Rattle.model.proofs.RowsSame.{rows-same, rows-strike}
 
 -- the bytes of each record of a held log
 abbrev held-records : ℕ → List ℕ → HeldLog → List (List ℕ)
 held-records w terms held = readLog w (termsOf terms) (take (held .used) (held .buffer)) .0
-
--- what is empty has nothing
-empty : {A : Type 0} (l : List A) → not (isEmpty l) ≡ false → l ≡ []
-unfolding isEmpty
-empty [] e = refl
-empty (x ∷ l) e = absurd (true≢false e)
 
 -- an event that is not refused with 11 is exactly one record
 event-one : (w : ℕ) (terms : Terms) (event : List ℕ) → notOneRecord w terms event ≡ false → OneRecord w terms event
@@ -66,7 +62,7 @@ module _ (w : ℕ) (terms : List ℕ) (held : HeldLog) (event : List ℕ) where
   records-after ok =
       ap (λ (s : List ℕ). readLog w (termsOf terms) s .0) (rw (ok, usedAfter) (append-keeps w terms (held .buffer) (held .used) event ok .used-bytes))
       ∙ ap (λ (x : List (List ℕ) × List ℕ). x .0)
-      (log-append w (termsOf terms) (take (held .used) (held .buffer)) event (empty _ (none-holds .log-ok .whole)) (event-one w (termsOf terms) event (none-holds .one-record)))
+      (log-append w (termsOf terms) (take (held .used) (held .buffer)) event (log-unbroken w (termsOf terms) _ (none-holds .log-ok .whole)) (event-one w (termsOf terms) event (none-holds .one-record)))
     where
       none-holds : AppendAccepted w terms (held .buffer) (held .used) event
       none-holds = append-accepted w terms (held .buffer) (held .used) event .0 ok
@@ -100,33 +96,19 @@ records-alike w terms m cs ds e = struck cs ∙ ap (map (recordFrom w terms)) e 
     struck : (l : List (List ℕ)) → recordsBefore m (map (recordFrom w terms) l) ≡ map (recordFrom w terms) (strike stampIn m l)
     struck l = strike-map stampIn (λ (r : Record). r .stamp) (recordFrom w terms) m l (all-of (λ c. recordFrom w terms c .stamp ≡ stampIn c) (λ c. refl) l)
 
--- a log's stamps are at most the last minute
-stamps-fit : (w : ℕ) (terms : List ℕ) (log : List ℕ) (used : ℕ) → StampsFit (logOf w terms log used)
-unfolding logOf recordsIn recordFrom stampLimit lastMinute
-stamps-fit w terms log used =
-    all-map (OneRecord w (termsOf terms)) (λ (r : Record). r .stamp ≤ lastMinute) (recordFrom w (termsOf terms)) (λ c one. omega (arith, one .stamped))
-    (readLog w (termsOf terms) (take used log) .0) (log-records w (termsOf terms) (take used log))
-
 -- each row of a report is timed by its last four bytes
 rows-timed : (w : ℕ) (terms log : List ℕ) (used m : ℕ) → All (λ x. timeIn w (rowBytes w x) ≡ x .time) (rowsOf w terms log used m)
-unfolding rowsOf reportRows lastMinute
+unfolding lastMinute
 rows-timed w terms log used m =
-    all-imp RowFits (λ x. timeIn w (rowBytes w x) ≡ x .time) (λ x h. row-timed w x (omega arith)) (rowsOf w terms log used m)
-    (strike-all (λ (x : Row). x .time) RowFits m (timedRows (termsOf terms) (logOf w terms log used)) (row-time (termsOf terms) (logOf w terms log used) (stamps-fit w terms log used)))
+    all-imp RowFits (λ x. timeIn w (rowBytes w x) ≡ x .time) (λ x h. row-timed w x (omega arith)) (rowsOf w terms log used m) (report-times w terms log used m)
 
 -- striking an accepted report's bytes is striking its rows
 rows-left : (w : ℕ) (terms log : List ℕ) (used m : ℕ) (page : List ℕ) → Accepted (report w terms log used m page)
     → (k : ℕ) → rowsLeft w k (report w terms log used m page) ≡ map (rowBytes w) (strike (λ (x : Row). x .time) k (rowsOf w terms log used m))
 unfolding rowsLeft
 rows-left w terms log used m page ok k =
-    rw (kept .counted, ← take-append-drop (rowLength w * o .answer .value) (o .left), kept .rows-first, rows-in w (rowsOf w terms log used m))
+    rw (page-rows w terms log used m page ok)
     (strike-map (λ (x : Row). x .time) (timeIn w) (rowBytes w) k (rowsOf w terms log used m) (rows-timed w terms log used m))
-  where
-    o : Outcome
-    o = report w terms log used m page
-
-    kept : ReportKeeps w (rowsOf w terms log used m) page o
-    kept = report-keeps w terms log used m page ok
 
 -- two held logs with the same records before m have the same rows at m
 same-rows : (w : ℕ) (terms : List ℕ) (m : ℕ) (held held′ : HeldLog) → strike stampIn m (held-records w terms held) ≡ strike stampIn m (held-records w terms held′)

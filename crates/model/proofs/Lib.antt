@@ -9,9 +9,10 @@ pub mod RelatedTimes
 pub mod StrikeLaws
 pub mod NumberLaws
 pub mod MaskLaws
-pub mod Reading
+pub mod ReaderLaws
 pub mod GrammarLaws
 pub mod FieldLaws
+pub mod WritingLaws
 pub mod RecordLaws
 pub mod LogLaws
 pub mod RowBytesLaws
@@ -22,6 +23,8 @@ pub mod Equation
 pub mod LastMinute
 pub mod RowLaws
 pub mod StandingLaws
+pub mod AcceptedLaws
+pub mod PageLaws
 pub mod SameBefore
 pub mod RowsSame
 pub mod Lasts

@@ -9,8 +9,17 @@ use lib.Dec.{eqb}
 use borrow.Author.Tests.{eqb-true, eqb-false}
 use Rattle.model.specs.declared.Stage.{Stage}
 use Rattle.model.specs.declared.Stage.the-variants.{Created, Detached, Expired, Discharged, Violated}
-use Rattle.model.specs.Lists.{numbersFrom}
+use Rattle.model.specs.Lists.{numbersFrom, All}
 use Rattle.model.specs.Stages.{stages, stageNumber}
+
+-- What all elements have, each that stands in the list has.
+pub member-has : {A : Type 0} (P : A → Type 0) (l : List A) {x : A} → All P l → List·Memᴰ x l → P x
+member-has P [] h k = absurd (List·Memᴰ·not-nil k)
+member-has P (y ∷ l) {x} h k = go (List·Memᴰ·cases-cons k) (member-has P l (h .1))
+  where
+    go : (x ≡ y) ⊎ List·Memᴰ x l → (List·Memᴰ x l → P x) → P x
+    go (inl e) ih = subst P (sym e) (h .0)
+    go (inr k) ih = ih k
 
 -- What stands in the lists that a list's elements give stands in the list of one of them.
 pub mem-flatMap : {A B : Type 0} (f : A → List B) (l : List A) {y : B} → List·Memᴰ y (flatMap f l) → (x : A) × List·Memᴰ x l × List·Memᴰ y (f x)
@@ -109,3 +118,20 @@ distinct-map g (x ∷ l) d = (λ m. d .0 (map-mem g m), distinct-map g l (d .1))
 pub distinct-stages : Distinct stages
 unfolding stages numbersFrom
 distinct-stages = distinct-map stageNumber stages (distinct-numbers 1 5)
+
+-- What stands in a list in another form comes from an element.
+pub mem-map : {A B : Type 0} (f : A → B) (l : List A) {z : B} → List·Memᴰ z (map f l) → (y : A) × List·Memᴰ y l × (z ≡ f y)
+mem-map f [] k = absurd (List·Memᴰ·not-nil k)
+mem-map {A} f (x ∷ l) {z} k = go (List·Memᴰ·cases-cons k) (mem-map f l)
+  where
+    go : (z ≡ f x) ⊎ List·Memᴰ z (map f l) → (List·Memᴰ z (map f l) → (y : A) × List·Memᴰ y l × (z ≡ f y)) → (y : A) × List·Memᴰ y (x ∷ l) × (z ≡ f y)
+    go (inl e) ih = (x, List·Memᴰ·head refl, e)
+    go (inr k) ih = let found = ih k in (found .0, List·Memᴰ·tail (found .1), found .2)
+
+-- A change of form that tells elements apart leaves none twice.
+pub distinct-form : {A B : Type 0} (f : A → B) (l : List A) → ((x y : A) → List·Memᴰ x l → List·Memᴰ y l → f x ≡ f y → x ≡ y) → Distinct l → Distinct (map f l)
+distinct-form f [] told d = tt
+distinct-form f (x ∷ l) told d = (
+  λ k. let found = mem-map f l k in d .0 (Memᴰ·cast (told x (found .0) (List·Memᴰ·head refl) (List·Memᴰ·tail (found .1)) (found .2)) (found .1)),
+  distinct-form f l (λ y z i k. told y z (List·Memᴰ·tail i) (List·Memᴰ·tail k)) (d .1),
+)

@@ -1,23 +1,23 @@
 -- Refusals: which number a list of checks gives, and what each call's acceptance says, refusal by refusal.
 -- Document 01, 'Calls': the lowest number that holds is returned, and an accepted call returns number 0. Assumes nothing.
-use Prim.Native.Nat.{ℕ, zero, suc, _+_, _*_, _≤_, _<_}
+use Prim.Native.Nat.{ℕ, zero, suc, _≤_, _<_}
 use native.Mathlib.Omega.{arith}
 use mathlib.Core.Path.{_≡_, refl, ap, sym, subst}
 use mathlib.Core.Logic.{_↔_, _⊎_, inl, inr, Iff·trans, Iff·and, Iff·rfl}
-use mathlib.Core.Bool.{Bool, true, false, cond, not, _&&_, _||_, true≢false, false≢true}
+use mathlib.Core.Bool.{Bool, true, false, cond, _&&_, true≢false, false≢true}
 use mathlib.Core.List.{List, [], _∷_, _++_, List·Memᴰ, List·Memᴰ·not-nil, List·Memᴰ·cases-cons, List·Memᴰ·head, Memᴰ·append-right}
-use lib.Dec.{leb, ltb}
-use lib.ListN.{length, take}
+use lib.Dec.{ltb}
+use lib.ListN.{take}
 use borrow.Author.Tests.{ltb-true}
 use Rattle.model.specs.declared.Entries.{Entries}
-use Rattle.model.specs.Lists.{isEmpty, anyOf, All}
-use Rattle.model.specs.Log.{sameKey}
+use Rattle.model.specs.Lists.{All}
 use Rattle.model.specs.Rows.{Row}
 use Rattle.model.specs.Grammar.{fileOf, breaksGrammar}
 use Rattle.model.specs.Fields.{fieldWrong, citationWrong, unsharedEvent}
-use Rattle.model.specs.Records.{recordFrom, readLog, stampsFall, keyRepeats, lastStamp, rowLength}
-use Rattle.model.specs.Calls.{Check, refusal, termsLimit, logLimit, termsOf, logOf, termsChecks, usedChecks, recordChecks, logChecks, notOneRecord, eventChecks, pageChecks, rowsOf, missing, standingSubject, keyChecks, checked, checkTerms, checkLog, Outcome, unlessRefused, append, onPage, report, standingAs, standing}
+use Rattle.model.specs.Records.{recordFrom, stampsFall, keyRepeats}
+use Rattle.model.specs.Calls.{Check, refusal, termsTooLong, usedTooLong, brokenRecord, stampTooLow, keyPresent, noRoom, pageTooShort, noSchema, termsOf, logOf, termsChecks, usedChecks, recordChecks, logChecks, notOneRecord, eventChecks, pageChecks, rowsOf, missing, standingSubject, keyChecks, checked, checkTerms, checkLog, Outcome, unlessRefused, append, onPage, report, standingAs, standing}
 use Rattle.model.specs.Lasting.{Accepted}
+use Rattle.model.proofs.MemberLaws.{member-has}
 
 -- no check of a list holds
 abbrev pub NoneHolds : List Check → Type 0
@@ -87,15 +87,6 @@ pub rises-above : (n m : ℕ) (checks : List Check) → m ≤ n → risesFrom n 
 rises-above n m [] h e = tt
 rises-above n m (c ∷ checks) h e = let p = rises-parts n c checks e in (omega arith, rises-above (c .number) m checks (omega arith) (p .1))
 
--- what all elements have, each has
-all-at : {A : Type 0} (P : A → Type 0) {x : A} (l : List A) → All P l → List·Memᴰ x l → P x
-all-at P [] h m = absurd (List·Memᴰ·not-nil m)
-all-at P {x} (y ∷ l) h m = go (List·Memᴰ·cases-cons m) (all-at P l (h .1))
-  where
-    go : (x ≡ y) ⊎ List·Memᴰ x l → (List·Memᴰ x l → P x) → P x
-    go (inl e) ih = rw e (h .0)
-    go (inr m) ih = ih m
-
 -- where the numbers rise, the answer is at most the number of any check that holds: the lowest number that holds is returned
 pub refusal-lowest : (n : ℕ) (checks : List Check) → risesFrom n checks ≡ true → (c : Check) → List·Memᴰ c checks → c .holds ≡ true
     → refusal checks ≤ c .number
@@ -109,7 +100,7 @@ refusal-lowest n (d ∷ checks) e c m h = go (d .holds) refl (List·Memᴰ·case
     go : (b : Bool) → d .holds ≡ b → (c ≡ d) ⊎ List·Memᴰ c checks → (List·Memᴰ c checks → c .holds ≡ true → refusal checks ≤ c .number)
         → cond b (d .number) (refusal checks) ≤ c .number
     go true p (inl q) ih = omega (arith, ap (λ (x : Check). x .number) q)
-    go true p (inr m) ih = omega (arith, all-at (λ (x : Check). d .number < x .number) checks (rises-above (d .number) (d .number) checks (omega arith) rest) m)
+    go true p (inr m) ih = omega (arith, member-has (λ (x : Check). d .number < x .number) checks (rises-above (d .number) (d .number) checks (omega arith) rest) m)
     go false p (inl q) ih = absurd (let z : _≡_ {A = ℕ} 0 1 = cc in omega arith)
     go false p (inr m) ih = ih m h
 
@@ -154,7 +145,7 @@ rising w terms log used = record {
 -- accepted terms: none of the refusals 1 to 5 holds
 pub record TermsAccepted (terms : List ℕ) : Type 0 where
   -- 1: not too long
-  pub short : ltb termsLimit (length terms) ≡ false
+  pub short : termsTooLong terms ≡ false
   -- 2: the grammar is kept
   pub grammar : breaksGrammar (fileOf terms) ≡ false
   -- 3: every field is in range
@@ -169,9 +160,9 @@ pub record LogAccepted (w : ℕ) (terms log : List ℕ) (used : ℕ) : Type 0 wh
   -- 1 to 5
   pub terms-ok : TermsAccepted terms
   -- 6: the used length is within the limit and the buffer
-  pub used-fits : (ltb logLimit used || ltb (length log) used) ≡ false
+  pub used-fits : usedTooLong log used ≡ false
   -- 7: the used bytes are whole records
-  pub whole : not (isEmpty (readLog w (termsOf terms) (take used log) .1)) ≡ false
+  pub whole : brokenRecord w (termsOf terms) (take used log) ≡ false
   -- 8: no stamp is below the one before
   pub in-order : stampsFall (logOf w terms log used) ≡ false
   -- 9: no kind and key stands twice
@@ -184,18 +175,18 @@ pub record AppendAccepted (w : ℕ) (terms log : List ℕ) (used : ℕ) (event :
   -- 11: exactly one record
   pub one-record : notOneRecord w (termsOf terms) event ≡ false
   -- 12: not stamped below the last one
-  pub not-earlier : ltb (recordFrom w (termsOf terms) event .stamp) (lastStamp (logOf w terms log used)) ≡ false
+  pub not-earlier : stampTooLow (recordFrom w (termsOf terms) event) (logOf w terms log used) ≡ false
   -- 13: of a new kind and key
-  pub new : anyOf (sameKey (termsOf terms) (recordFrom w (termsOf terms) event)) (logOf w terms log used) ≡ false
+  pub new : keyPresent (termsOf terms) (recordFrom w (termsOf terms) event) (logOf w terms log used) ≡ false
   -- 14: it fits the buffer and the limit
-  pub event-fits : (ltb (length log) (used + length event) || ltb logLimit (used + length event)) ≡ false
+  pub event-fits : noRoom log used event ≡ false
 
 -- an accepted standing: nor 15, 16
 pub record StandingAccepted (w : ℕ) (terms log : List ℕ) (used schema key m : ℕ) : Type 0 where
   -- 1 to 9
   pub log-ok : LogAccepted w terms log used
   -- 15: the schema is there
-  pub schema-there : leb (length (termsOf terms .schemas)) schema ≡ false
+  pub schema-there : noSchema (termsOf terms) schema ≡ false
   -- 16: the subject is there
   pub subject-there : missing (standingSubject w terms log used schema key m) ≡ false
 
@@ -286,7 +277,7 @@ append-accepted w terms log used event =
 
 -- call 4 accepts exactly the reports to which none of 1 to 10 applies
 pub report-accepted : (w : ℕ) (terms log : List ℕ) (used m : ℕ) (page : List ℕ) → Accepted (report w terms log used m page)
-    ↔ (LogAccepted w terms log used × (ltb (length page) (rowLength w * length (rowsOf w terms log used m)) ≡ false))
+    ↔ (LogAccepted w terms log used × (pageTooShort w (rowsOf w terms log used m) page ≡ false))
 unfolding pageChecks
 report-accepted w terms log used m page =
     rw report-number (Iff·trans (beyond-log w terms log used _ (rising w terms log used .report-rises (rowsOf w terms log used m) page)) (λ h. (h .0, h .1 .0), λ a. (a .0, (a .1, tt))))

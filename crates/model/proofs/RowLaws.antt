@@ -259,3 +259,38 @@ rows-distinct terms log m e =
 pub report-distinct : (w : ℕ) (terms log : List ℕ) (used m : ℕ) (page : List ℕ) → Accepted (report w terms log used m page) → Distinct (rowsOf w terms log used m)
 unfolding rowsOf
 report-distinct w terms log used m page e = rows-distinct _ _ m (report-accepted w terms log used m page .0 e .0 .once)
+
+-- A row of a subject's schema and key is that subject's.
+pub row-of : (terms : Terms) (log : Log) (m j : ℕ) (r : Record) (x : Row) → keyRepeats terms log ≡ false → List·Memᴰ r log → isSubject terms j r ≡ true
+    → List·Memᴰ x (reportRows terms log m) → x .schema ≡ j → x .key ≡ keyOf terms r → (stageTime terms log (x .stage) j r ≡ At (x .time)) × (x .time < m)
+unfolding rowOf
+row-of terms log m j r x once logged is-subject k a b =
+    let i = row-exact terms log m x .0 k in
+    let schema : i .schema ≡ j = ap (λ (y : Row). y .schema) (sym (i .says)) ∙ a in
+    let key : keyOf terms (i .subject) ≡ keyOf terms r = ap (λ (y : Row). y .key) (sym (i .says)) ∙ b in
+    let stage : x .stage ≡ i .stage = ap (λ (y : Row). y .stage) (i .says) in
+    let minute : x .time ≡ i .minute = ap (λ (y : Row). y .time) (i .says) in
+    let kind : i .subject .kind ≡ r .kind = cc (subject-kind terms (i .schema) (i .subject) (i .is-subject), subject-kind terms j r is-subject, schema) in
+    let same : i .subject ≡ r = key-once terms log (i .subject) r once (i .logged) logged kind key in
+    (cc (i .timed, schema, stage, minute, same), omega (arith, minute, i .in-time))
+
+-- So, over an accepted log, a subject's row of a stage is in the report if and only if that stage's time, for this subject, is before the moment.
+pub row-of-subject : (terms : Terms) (log : Log) (m j : ℕ) (r : Record) → keyRepeats terms log ≡ false → j < length (terms .schemas)
+    → List·Memᴰ r log → isSubject terms j r ≡ true → (s : Stage) (t : ℕ)
+    → List·Memᴰ (rowOf terms j r s t) (reportRows terms log m) ↔ ((stageTime terms log s j r ≡ At t) × (t < m))
+unfolding rowOf
+row-of-subject terms log m j r once declared logged is-subject s t = (
+  λ k. row-of terms log m j r (rowOf terms j r s t) once logged is-subject k refl refl,
+  λ h. row-exact terms log m (rowOf terms j r s t) .1 (record {
+    schema = j;
+    subject = r;
+    stage = s;
+    minute = t;
+    declared = declared;
+    logged = logged;
+    is-subject = is-subject;
+    timed = h .0;
+    in-time = h .1;
+    says = refl;
+  }),
+)

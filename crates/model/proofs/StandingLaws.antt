@@ -21,11 +21,11 @@ use Rattle.model.specs.Log.{Record, Log, keyOf}
 use Rattle.model.specs.Meaning.{stageTime}
 use Rattle.model.specs.Rows.{Row, rowOf, isSubject, reportRows, find, subjectOf, entriesOf}
 use Rattle.model.specs.Records.{keyRepeats}
-use Rattle.model.specs.Calls.{termsOf, logOf, missing, logChecks, standingSubject, keyChecks, refusal, entriesFor, standingAs, standing}
+use Rattle.model.specs.Calls.{termsOf, logOf, noSchema, missing, logChecks, standingSubject, keyChecks, refusal, entriesFor, standingAs, standing}
 use Rattle.model.proofs.BoolLaws.{and-true}
 use Rattle.model.proofs.TimeLaws.{before-lt}
 use Rattle.model.proofs.RefusalLaws.{standing-accepted}
-use Rattle.model.proofs.RowLaws.{before-at, row-exact, key-once, subject-kind}
+use Rattle.model.proofs.RowLaws.{before-at, row-exact, row-of}
 
 -- the entry of a stage
 unfoldable pub entry : Stage → Entries → Time
@@ -83,20 +83,6 @@ entry-of terms log m j r Expired = refl
 entry-of terms log m j r Discharged = refl
 entry-of terms log m j r Violated = refl
 
--- a row of a subject's schema and key is that subject's
-row-of : (terms : Terms) (log : Log) (m j : ℕ) (r : Record) (x : Row) → keyRepeats terms log ≡ false → List·Memᴰ r log → isSubject terms j r ≡ true
-    → List·Memᴰ x (reportRows terms log m) → x .schema ≡ j → x .key ≡ keyOf terms r → (stageTime terms log (x .stage) j r ≡ At (x .time)) × (x .time < m)
-unfolding rowOf
-row-of terms log m j r x once logged is-subject k a b =
-    let i = row-exact terms log m x .0 k in
-    let schema : i .schema ≡ j = ap (λ (y : Row). y .schema) (sym (i .says)) ∙ a in
-    let key : keyOf terms (i .subject) ≡ keyOf terms r = ap (λ (y : Row). y .key) (sym (i .says)) ∙ b in
-    let stage : x .stage ≡ i .stage = ap (λ (y : Row). y .stage) (i .says) in
-    let minute : x .time ≡ i .minute = ap (λ (y : Row). y .time) (i .says) in
-    let kind : i .subject .kind ≡ r .kind = cc (subject-kind terms (i .schema) (i .subject) (i .is-subject), subject-kind terms j r is-subject, schema) in
-    let same : i .subject ≡ r = key-once terms log (i .subject) r once (i .logged) logged kind key in
-    (cc (i .timed, schema, stage, minute, same), omega (arith, minute, i .in-time))
-
 -- A subject's entries show its rows, where no kind and key stands twice in the log.
 pub entries-show : (terms : Terms) (log : Log) (m j : ℕ) (r : Record) → keyRepeats terms log ≡ false → j < length (terms .schemas)
     → List·Memᴰ r log → isSubject terms j r ≡ true → Shows terms log m j r (entriesOf terms log m j r)
@@ -141,7 +127,7 @@ entries-show terms log m j r once declared logged is-subject = record { shown = 
 pub standing-shows : (w : ℕ) (terms log : List ℕ) (used j key m : ℕ) → standing w terms log used j key m .number ≡ 0
     → (r : Record) × IsSubjectOf (termsOf terms) (logOf w terms log used) j key m r
     × Shows (termsOf terms) (logOf w terms log used) m j r (standing w terms log used j key m .entries)
-unfolding standing standingSubject standingAs entriesFor missing
+unfolding standing standingSubject standingAs entriesFor missing noSchema
 standing-shows w terms log used j key m e =
     let ok = standing-accepted w terms log used j key m .0 e in
     go (refusal (logChecks w terms log used ++ keyChecks w terms log used j key m)) (standingSubject w terms log used j key m) refl (ok .subject-there) (ok .log-ok .once) (leb-false _ _ (ok .schema-there)) e

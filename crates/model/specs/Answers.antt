@@ -46,26 +46,26 @@ pub record StandingAnswer : Type 0 where
   -- five times not yet with a refusal
   pub entries : Entries
 
--- calls 1 and 2 count nothing
+-- calls 1 and 2 count nothing (behind the table)
 unfoldable pub checkedAnswer : Checked → Answer
 checkedAnswer checkedCase.Accepted = record { number = 0; value = 0 }
 checkedAnswer (checkedCase.Refused x) = record { number = refusalNumber x; value = 0 }
 
--- call 3 gives a length
+-- an append gives a length (call 3)
 unfoldable pub appendedAnswer : Appended → Answer
 appendedAnswer (appendedCase.Length n) = record { number = 0; value = n }
 appendedAnswer (appendedCase.Refused x) = record { number = refusalNumber x; value = 0 }
 
--- call 4 gives a count
+-- a report gives a count (call 4)
 unfoldable pub reportedAnswer : Reported → Answer
 reportedAnswer (reportedCase.Count n) = record { number = 0; value = n }
 reportedAnswer (reportedCase.Refused x) = record { number = refusalNumber x; value = 0 }
 
--- call 5 gives entries
+-- a standing gives entries (call 5)
 unfoldable pub standingAnswer : Standing → StandingAnswer
 standingAnswer (standingCase.Shown e) = record { number = 0; entries = e }
 standingAnswer (standingCase.Refused x) = record { number = refusalNumber x; entries = notYet }
 
--- the answer as the library service gets it, in 64 bits
+-- the answer as the library service gets it, in 64 bits (calls, last sentence)
 unfoldable pub packed : Answer → ℕ
 packed a = a .number * 4294967296 + a .value

@@ -17,15 +17,15 @@ unfoldable pub numberOf : List ℕ → ℕ
 numberOf [] = 0
 numberOf (b ∷ s) = b + 256 * numberOf s
 
--- the byte at a place
+-- the byte at a place (items)
 unfoldable pub byteAt : List ℕ → ℕ → ℕ
 byteAt s at = getD s at 0
 
--- the number in the w bytes from a place on
+-- the number in the w bytes from a place on (sentence 1)
 unfoldable pub numberAt : ℕ → List ℕ → ℕ → ℕ
 numberAt w s at = numberOf (take w (drop at s))
 
--- bytes cut into n pieces of one length
+-- bytes cut into n pieces of one length (log record, row)
 unfoldable pub pieces : ℕ → ℕ → List ℕ → List (List ℕ)
 pieces size zero s = []
 pieces size (suc n) s = take size s ∷ pieces size n (drop size s)
@@ -34,16 +34,16 @@ pieces size (suc n) s = take size s ∷ pieces size n (drop size s)
 unfoldable pub written : List ℕ → ℕ → List ℕ → List ℕ
 written buffer at bs = take at buffer ++ (bs ++ drop (at + length bs) buffer)
 
--- what is read at the front of bytes, with the bytes behind it; none where it does not stand there
+-- what is read at the front of bytes, with the bytes behind it; none where it does not stand there (items, log record)
 abbrev pub Reader : Type 0 → Type 0
 Reader A = List ℕ → Option (A × List ℕ)
 
--- the first reading, or else the second
+-- the first reading, or else the second (items 03 to 07)
 abbrev pub orElse : {A : Type 0} → Option A → Option A → Option A
 orElse none b = b
 orElse (some a) b = some a
 
--- one thing after another as far as they can be read, at most n, with the bytes left over
+-- one thing after another as far as they can be read, at most n, with the bytes left over (Grammar, log record)
 unfoldable pub many : {A : Type 0} → Reader A → ℕ → List ℕ → List A × List ℕ
 many reader zero s = ([], s)
 many reader (suc n) s = elim (reader s) [

@@ -59,9 +59,9 @@ leafOf body =
     bind (boundOf body 9) λ u.
     some (record { event = e; lower = l; upper = u })
 
--- what a leaf that refusal 3 turns away stands for: it neither occurs nor fails, since no record is of kind 256
+-- what a leaf that refusal 3 turns away stands for: an open lower bound lets nothing in, an open upper one is never reached
 unfoldable pub neither : Expr Leaf
-neither = leaf (record { event = Kind 256; lower = Plain 0; upper = Open })
+neither = leaf (record { event = Kind 0; lower = Open; upper = Open })
 
 -- the expression that a leaf's body stands for (item 03)
 unfoldable pub leafFrom : List ℕ → Expr Leaf

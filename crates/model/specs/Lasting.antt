@@ -1,5 +1,5 @@
 -- Demand 3: a given report lasts. The statement, over the outcomes of calls 3 and 4; its proof is proofs/Lasts.antt.
--- Document 00, demand 3, with the words of document 01, 'Calls'. Assumes nothing: these are definitions.
+-- Document 00, demand 3, in the words that document 01 gives for it behind the table of 'Calls'. Assumes nothing: these are definitions.
 use Prim.Native.Nat.{ℕ, zero, suc, _*_, _≤_}
 use mathlib.Core.Path.{_≡_}
 use mathlib.Core.List.{List, [], _∷_, flatten}

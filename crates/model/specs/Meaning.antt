@@ -19,7 +19,7 @@ use Rattle.model.specs.Time.{laterOf, earlierOf, before, from, onceKnown
 use Rattle.model.specs.Terms.{Terms, Expr, leaf, and, or, except, always, kindOf, schemaAt, rank}
 use Rattle.model.specs.Log.{Record, Log, correlate}
 
--- times of stages: of a stage of a schema, for a subject
+-- times of stages: of a stage of a schema, for a subject (stages)
 abbrev pub StageTimes : Type 0
 StageTimes = Stage → ℕ → Record → Time
 
@@ -27,7 +27,7 @@ StageTimes = Stage → ℕ → Record → Time
 unfoldable pub cited : ℕ → StageTimes → StageTimes
 cited k times s j subject = elim (ltb (rank s j) k) [ true ↦ times s j subject | false ↦ Never ]
 
--- the earliest of the times that a log's records give (bounds, leaves)
+-- the earliest of the times that a log's records give (bounds, leaf occurs)
 unfoldable pub earliest : (Record → Time) → Log → Time
 earliest f [] = Never
 earliest f (r ∷ log) = earlierOf (f r) (earliest f log)
@@ -87,7 +87,7 @@ orOf a b = record { occurs = earlierOf (a .occurs) (b .occurs); fails = laterOf 
 unfoldable pub exceptOf : Times → Times → Times
 exceptOf a b = record { occurs = laterOf (a .occurs) (b .fails); fails = earlierOf (a .fails) (b .occurs) }
 
--- the stages that may be cited, the terms, the log and the subject
+-- for the stages that may be cited, the terms, the log and the subject
 module _ (times : StageTimes) (terms : Terms) (log : Log) (subject : Record) where
   -- the earliest happening of an event (bounds)
   unfoldable pub first : Event → Time
