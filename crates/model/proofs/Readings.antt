@@ -213,16 +213,16 @@ leafCases =
     -- A6: no 32-bit moment shows a time past the last minute; asked at a larger number, there still is none
     ∷ case (reportedAt 8589934592 (endOfTime 1) (sAt 2147483647)) (endRows [])
     ∷ case (reportedAt 8589934592 (endOfTime 2) (sAt 2147483647)) (endRows [])
-    -- A7: an earlier happening hides nothing
+    -- A7: a window looks at all happenings, not at the first alone
     ∷ case (detaching (leaf E (plain 10) (plain 20)) (eAt 5 ++ eAt 12)) (occursAt 12)
     -- A8: an unknown upper bound settles nothing
     ∷ case (detaching (leaf E (plain 0) (plus F 9)) (eAt 5)) doesNeither
     ∷ case (detaching (leaf E (plain 0) (plus F 9)) []) doesNeither
     ∷ case (detaching (leaf E (plain 0) (plus F 9)) (eAt 5 ++ fAt 8)) (occursAt 8)
-    -- A9: except needs a failure, and an open leaf never fails
+    -- A9: what is open cannot fail, so nothing follows from its failure
     ∷ case (detaching (except (leaf E (plain 0) (plain 9)) (leaf F (plain 0) unbounded)) (eAt 3)) doesNeither
     ∷ case (detaching (except (leaf E (plain 0) (plain 9)) (leaf F (plain 0) unbounded)) (fAt 4)) (failsAt 4)
-    -- A10: a commitment can be discharged without being created
+    -- A10: the discharge of a commitment does not ask for its creation
     ∷ case (reported (norm 1 (leaf E (plain 0) (plain 0)) always always) (sAt 4)) (rows (row 4 4 ∷ []))
     -- A11: no stage lies before the subject's stamp, and none that is cited: E at 2 is before created of schema 0
     ∷ case (reported (norm 2 always (leaf E (plain 0) (plain 0)) nothing) (sAt 4)) (rows (row 1 4 ∷ row 3 4 ∷ []))
@@ -335,6 +335,10 @@ stageCases =
     ∷ case (citing (leaf F (plus (detached 0) 2) unbounded) (eAt 5 ++ fAt 7)) (rows (row 1 0 ∷ row 2 5 ∷ rowOn 1 7 1 0 ∷ rowOn 1 7 2 7 ∷ []))
     ∷ case (citing (leaf F (minus (detached 0) 2) unbounded) (fAt 3 ++ eAt 5)) (rows (row 1 0 ∷ row 2 5 ∷ rowOn 1 7 1 0 ∷ rowOn 1 7 2 5 ∷ []))
     ∷ case (citing (leaf F (plain 0) (plus (expired 0) 0)) (fAt 4)) (rows (row 1 0 ∷ row 3 10 ∷ rowOn 1 7 1 0 ∷ rowOn 1 7 2 10 ∷ []))
+    -- discharged, which ranks with the last clause
+    ∷ case
+    (reported (norm 2 always always always ++ schema 2 0 0 0 always (leaf (discharged 0) (plain 0) unbounded) nothing) (sAt 4))
+    (rows (row 1 4 ∷ row 2 4 ∷ row 4 4 ∷ rowOn 1 7 1 4 ∷ rowOn 1 7 2 4 ∷ []))
     -- an authorization's violated may be cited; it never happens
     ∷ case (citing (leaf F (plain 0) (plus (violated 0) 0)) (fAt 4)) (rows (row 1 0 ∷ row 3 10 ∷ rowOn 1 7 1 0 ∷ []))
     -- a schema cites its own earlier stages
@@ -376,7 +380,7 @@ rowCases =
     ∷ case
     (reported (kinds ++ schema 2 1 0 1 always always nothing) (sAt 0 ++ eAt 3))
     (rows ((1 ∷ 0 ∷ word 3 ++ word 7 ++ word 3 ++ word 3) ∷ (2 ∷ 0 ∷ word 3 ++ word 7 ++ word 3 ++ word 3) ∷ []))
-    -- a row if the time is before the moment; records stamped later may stand in the log
+    -- A13: a moment takes rows away, not records: a later record may stand in the log
     ∷ case (reportedAt 10 (norm 2 always E10 nothing) (sAt 0 ++ fAt 30)) (rows (row 1 0 ∷ []))
     ∷ case (reportedAt 11 (norm 2 always E10 nothing) (sAt 0 ++ fAt 30)) (rows (row 1 0 ∷ row 3 10 ∷ []))
     ∷ case (reportedAt 0 (norm 2 always E10 nothing) (sAt 0 ++ fAt 30)) (rows [])
@@ -452,7 +456,7 @@ termsCases =
     ∷ terms (clauses (deepRight 16) always always) 2
     ∷ terms (clauses always (deepLeft 16) always) 2
     ∷ terms (clauses always always (deepRight 16)) 2
-    -- 3 at a kind: its number is its place; the key is in the mask
+    -- B4 at a kind: its number is its place; the key is in the mask
     ∷ terms (kind 1 0b1 0 ++ plainSchema) 3
     ∷ terms (kind 0 0b1 0 ++ kind 0 0b1 0 ++ plainSchema) 3
     ∷ terms (kind 0 0b1 0 ++ kind 2 0b1 0 ++ plainSchema) 3
@@ -461,7 +465,7 @@ termsCases =
     ∷ terms (kind 0 0xFFFF 15 ++ plainSchema) 0
     ∷ terms (kind 0 0xFFFF 16 ++ plainSchema) 3
     ∷ terms (kind 0 0xFFFF 255 ++ plainSchema) 3
-    -- 3 at a schema: types 1 to 4; a declared kind; parties that this kind carries
+    -- B4 at a schema: types 1 to 4; a declared kind; parties that this kind carries
     ∷ terms (kinds ++ schema 0 0 0 0 always always always) 3
     ∷ terms (kinds ++ schema 1 0 0 0 always always always) 0
     ∷ terms (kinds ++ schema 4 0 0 0 always always always) 0
@@ -603,7 +607,7 @@ appendCases =
     case (appended (event 0 3 (8 ∷ []))) (gives 0 18 (sAt 3 ++ event 0 3 (8 ∷ []) ++ rest 1))
     ∷ case (appended (event 0 2 (8 ∷ []))) (gives 12 0 buffer)
     ∷ case (append valueWidth good buffer 0 (event 0 2 (8 ∷ []))) (gives 0 9 (event 0 2 (8 ∷ []) ++ rest 10))
-    -- C3: 11 takes in everything of 7: none, cut short, longer, two records, undeclared kind, stamped too high
+    -- C3: what 7 turns away in a log, 11 turns away in an event: none, cut short, longer, two records, undeclared kind, stamped too high
     ∷ case (appended []) (gives 11 0 buffer)
     ∷ case (appended (0 ∷ word 3 ++ (8 ∷ 0 ∷ 0 ∷ []))) (gives 11 0 buffer)
     ∷ case (appended (event 0 3 (8 ∷ []) ++ (0 ∷ []))) (gives 11 0 buffer)
@@ -656,7 +660,7 @@ standingAt j key m = shown (standing valueWidth twoNorms twoLog (length twoLog) 
 
 abbrev callCases : List Case
 callCases =
-    -- 10: the page is measured before anything is written; C5: a page of no bytes is enough for no rows
+    -- 10: the page is measured before anything is written; C5: no rows fit on no bytes
     case (report valueWidth good (sAt 3) 9 4 (rest 18)) (gives 10 0 (rest 18))
     ∷ case (report valueWidth (clauses always waiting nothing) (sAt 3) 9 4 (rest 17)) (gives 10 0 (rest 17))
     ∷ case (report valueWidth (clauses always waiting nothing) (sAt 3) 9 4 (rest 18)) (gives 0 1 (row 1 3))

@@ -87,31 +87,31 @@ Hold cs = map (λ (c : Case). c .is) cs ≡ map (λ (c : Case). c .should) cs
 -- the cases A to J
 abbrev cases : List Case
 cases =
-    -- A, at 46, whole
+    -- A: at 46 the write at 45 violates
     case (report valueWidth terms (log 45) 56 46 (rest 60)) (gives 0 3 (row 1 10 ++ (row 2 30 ++ (row 5 45 ++ rest 6))))
-    -- B, at 45 the first two
+    -- B: at 45 it does not yet
     ∷ case (report valueWidth terms (log 45) 56 45 (rest 60)) (gives 0 2 (row 1 10 ++ (row 2 30 ++ rest 24)))
-    -- C, empty log, no rows
+    -- C: nothing is used, then nothing is lent
     ∷ case (report valueWidth terms (log 45) 0 46 (rest 60)) (gives 0 0 (rest 60))
     ∷ case (report valueWidth terms [] 0 46 []) (gives 0 0 [])
-    -- D, at 10 none, at 11 one
+    -- D: created at 10 shows from 11 on
     ∷ case (report valueWidth terms (log 45) 56 10 (rest 60)) (gives 0 0 (rest 60))
     ∷ case (report valueWidth terms (log 45) 56 11 (rest 60)) (gives 0 1 (row 1 10 ++ rest 42))
-    -- E, last record dropped, at 130 two rows, at 131 also discharged 130
+    -- E: without the write at 45 the prohibition is kept when its window ends at 130
     ∷ case (report valueWidth terms (log 45) 43 130 (rest 60)) (gives 0 2 (row 1 10 ++ (row 2 30 ++ rest 24)))
     ∷ case (report valueWidth terms (log 45) 43 131 (rest 60)) (gives 0 3 (row 1 10 ++ (row 2 30 ++ (row 4 130 ++ rest 6))))
-    -- F, last write at 30, at 46 violated 30
+    -- F: a write at the revocation itself violates
     ∷ case (report valueWidth terms (log 30) 56 46 (rest 60)) (gives 0 3 (row 1 10 ++ (row 2 30 ++ (row 5 30 ++ rest 6))))
-    -- G, asked at 140, last write at 129: violated 129; last write at 130: discharged 130
+    -- G: 129 is the last minute inside the window, 130 the first outside
     ∷ case (report valueWidth terms (log 129) 56 140 (rest 60)) (gives 0 3 (row 1 10 ++ (row 2 30 ++ (row 5 129 ++ rest 6))))
     ∷ case (report valueWidth terms (log 130) 56 140 (rest 60)) (gives 0 3 (row 1 10 ++ (row 2 30 ++ (row 4 130 ++ rest 6))))
-    -- H, page of 53 bytes at 46, refused 10; 54 bytes are enough
+    -- H: three rows need 54 bytes; one byte less is refused, and the page stays
     ∷ case (report valueWidth terms (log 45) 56 46 (rest 53)) (gives 10 0 (rest 53))
     ∷ case (report valueWidth terms (log 45) 56 46 (rest 54)) (gives 0 3 (row 1 10 ++ (row 2 30 ++ row 5 45)))
-    -- I, append Written (5, 3) to the sample log: at 44 refused 12; to the sample log again, at 45 accepted, length 69
+    -- I: Written (5, 3) stamped 44 is refused with 12, every byte as before; stamped 45 it makes the log 69 bytes long
     ∷ case (append valueWidth terms (log 45 ++ rest 20) 56 (writing 44 3)) (gives 12 0 (log 45 ++ rest 20))
     ∷ case (append valueWidth terms (log 45 ++ rest 20) 56 (writing 45 3)) (gives 0 69 (log 45 ++ (writing 45 3 ++ rest 7)))
-    -- J, the consequent citing detached of its own schema passes, discharged is refused 4
+    -- J: the consequent may cite its own schema's detached, and not its discharged
     ∷ case (told (checkTerms (stageCited 2))) (gives 0 0 [])
     ∷ case (told (checkTerms (boundCited 2))) (gives 0 0 [])
     ∷ case (told (checkTerms (stageCited 4))) (gives 4 0 [])
