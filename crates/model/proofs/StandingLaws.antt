@@ -25,7 +25,7 @@ use Rattle.model.specs.Calls.{termsOf, logOf, noSchema, missing, logChec
 use Rattle.model.proofs.BoolLaws.{and-true}
 use Rattle.model.proofs.TimeLaws.{before-lt}
 use Rattle.model.proofs.RefusalLaws.{standing-accepted}
-use Rattle.model.proofs.RowLaws.{before-at, row-exact, row-of}
+use Rattle.model.proofs.RowLaws.{before-at, row-of, row-of-subject}
 
 -- the entry of a stage
 unfoldable pub entry : Stage → Entries → Time
@@ -90,20 +90,7 @@ unfolding rowOf
 entries-show terms log m j r once declared logged is-subject = record { shown = λ s t. (there s t, here s t); none-missing = missed; not-yet = λ s. (empty s, waits s) }
   where
     there : (s : Stage) (t : ℕ) → entry s (entriesOf terms log m j r) ≡ At t → List·Memᴰ (rowOf terms j r s t) (reportRows terms log m)
-    there s t e =
-        let h = before-at m (stageTime terms log s j r) t (sym (entry-of terms log m j r s) ∙ e) in
-        row-exact terms log m (rowOf terms j r s t) .1 (record {
-          schema = j;
-          subject = r;
-          stage = s;
-          minute = t;
-          declared = declared;
-          logged = logged;
-          is-subject = is-subject;
-          timed = h .0;
-          in-time = h .1;
-          says = refl;
-        })
+    there s t e = row-of-subject terms log m j r once declared logged is-subject s t .1 (before-at m (stageTime terms log s j r) t (sym (entry-of terms log m j r s) ∙ e))
 
     missed : (x : Row) → List·Memᴰ x (reportRows terms log m) → x .schema ≡ j → x .key ≡ keyOf terms r → entry (x .stage) (entriesOf terms log m j r) ≡ At (x .time)
     missed x k a b = let h = row-of terms log m j r x once logged is-subject k a b in entry-of terms log m j r (x .stage) ∙ ap (before m) (h .0) ∙ before-lt m (x .time) (h .1)
