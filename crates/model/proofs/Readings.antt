@@ -2,11 +2,12 @@
 -- words give, closed by computation. A1 to C6 number these readings. Beside them stand each refusal with its nearest accepted neighbour, each type
 -- of norm, each sign of a bound, and the order of rows. The expected outcomes are written from the document. Assumes nothing.
 use Prim.Native.Nat.{ℕ, zero, suc, _-_, _*_, _/_, _%_}
-use mathlib.Core.Path.{refl}
-use mathlib.Core.List.{List, [], _∷_, _++_, flatMap, flatten}
+use mathlib.Core.Path.{_≡_, refl, ap, ap₂}
+use mathlib.Core.List.{List, [], _∷_, _++_, map, flatMap, flatten}
 use lib.ListN.{length, replicate}
 use Rattle.model.specs.declared.Time.{Time}
 use Rattle.model.specs.declared.Time.the-variants.{At, Never}
+use Rattle.model.specs.Lists.{All}
 use Rattle.model.specs.Records.{valueWidth}
 use Rattle.model.proofs.Sample.{word, rest, gives, told, Case, case, Hold}
 use Rattle.model.specs.Answers.{StandingAnswer}
@@ -624,6 +625,9 @@ appendCases =
     ∷ case (append valueWidth good (sAt 3 ++ rest 9) 9 (event 0 3 (8 ∷ []))) (gives 0 18 (sAt 3 ++ event 0 3 (8 ∷ [])))
     ∷ case (append valueWidth good (sAt 3 ++ rest 8) 9 (event 0 3 (8 ∷ []))) (gives 14 0 (sAt 3 ++ rest 8))
     ∷ case (append valueWidth good (sAt 3) 9 (sAt 3)) (gives 13 0 (sAt 3))
+    -- 14 by the limit, at widths at which one record is so long: 32,768 bytes fit, 32,769 do not, though the buffer has room
+    ∷ case (told (append 32763 good (replicate 32800 0) 0 (replicate 32768 0) .answer)) (gives 0 32768 [])
+    ∷ case (told (append 32764 good (replicate 32800 0) 0 (replicate 32769 0) .answer)) (gives 14 0 [])
     -- C4: the faults of terms and log come before the event's
     ∷ case (append valueWidth good (sAt 3 ++ eAt 2 ++ rest 9) 22 []) (gives 8 0 (sAt 3 ++ eAt 2 ++ rest 9))
     ∷ case (append valueWidth good (sAt 3) 10 []) (gives 6 0 (sAt 3))
@@ -722,6 +726,24 @@ callHold : Hold callCases
 unfolding computes
 callHold = refl
 
--- every call of every list gives what the document's words say
-pub readings : Hold leafCases × Hold connectiveCases × Hold typeCases × Hold stageCases × Hold rowCases × Hold termsCases × Hold logCases × Hold appendCases × Hold callCases
-readings = (leafHold, connectiveHold, typeHold, stageHold, rowHold, termsHold, logHold, appendHold, callHold)
+map-join : {A B : Type 0} (f : A → B) (a b : List A) → map f (a ++ b) ≡ map f a ++ map f b
+map-join f [] b = refl
+map-join f (x ∷ a) b = ap (λ t. f x ∷ t) (map-join f a b)
+
+-- lists that hold, one after another, make one that holds
+hold-all : (parts : List (List Case)) → All Hold parts → Hold (flatten parts)
+unfolding flatten
+hold-all [] h = refl
+hold-all (a ∷ parts) h =
+    rw (map-join (λ (c : Case). c .is) a (flatten parts), map-join (λ (c : Case). c .should) a (flatten parts))
+    (ap₂ (λ s t. s ++ t) (h .0) (hold-all parts (h .1)))
+
+-- the parts of the second list
+abbrev pub parts : List (List Case)
+parts = leafCases ∷ connectiveCases ∷ typeCases ∷ stageCases ∷ rowCases ∷ termsCases ∷ logCases ∷ appendCases ∷ callCases ∷ []
+
+-- each call of the second list gives what the document's words say; the parts are computed one by one, which is quicker than all at once
+pub readings : Hold (flatten parts)
+readings =
+    hold-all parts
+    (leafHold, (connectiveHold, (typeHold, (stageHold, (rowHold, (termsHold, (logHold, (appendHold, (callHold, tt)))))))))
