@@ -19,7 +19,7 @@ use Rattle.model.specs.declared.Leaf.{Leaf}
 use Rattle.model.specs.declared.Time.the-variants.{Never}
 use Rattle.model.specs.Time.{earlierOf}
 use Rattle.model.specs.Stages.{stageNumber}
-use Rattle.model.specs.Terms.{Terms}
+use Rattle.model.specs.Terms.{Terms, leaf}
 use Rattle.model.specs.Log.{Record, Log}
 use Rattle.model.specs.Meaning.{StageTimes, earliest, Edge, endless, fromEdge, reached, edgeOf, Times, firstWithin, known, leafOccurrence, failureAt, leafFailure, timesOf}
 use Rattle.model.specs.Bytes.{bytesOf, byteAt, numberAt}
@@ -166,7 +166,7 @@ bound-read terms s at e = go (eqb sign 0) (eqb sign 1) (eqb sign 2) (eqb sign 3)
     go false false false true e = (Open, refl)
     go false false false false e = absurd (true≢false e)
 
--- a leaf that refusal 3 does not turn away is read: no accepted leaf stands for the expression that neither occurs nor fails
+-- a leaf that refusal 3 does not turn away is read: no accepted body stands for the leaf that neither occurs nor fails
 pub leaf-read : (terms : Terms) (body : List ℕ) → leafWrong terms body ≡ false → (x : Leaf) × (leafOf body ≡ some x)
 unfolding leafWrong leafOf bind
 leaf-read terms body h =
@@ -189,7 +189,7 @@ unfolding firstWithin earliest earlierOf fromEdge
 none-within times terms [] subject u e = refl
 none-within times terms (r ∷ log) subject u e = none-within times terms log subject u e
 
--- the expression for a leaf that cannot be read neither occurs nor fails
-pub neither-silent : (times : StageTimes) (terms : Terms) (log : Log) (subject : Record) → Silent (timesOf times terms log subject neither)
+-- the leaf for a body that cannot be read neither occurs nor fails
+pub neither-silent : (times : StageTimes) (terms : Terms) (log : Log) (subject : Record) → Silent (timesOf times terms log subject (leaf neither))
 unfolding neither timesOf leafOccurrence leafFailure failureAt known edgeOf reached
 neither-silent times terms log subject = (simp (none-within, onceKnown-never), simp (ifNever-never, onceKnown-never))

@@ -1,5 +1,6 @@
 -- Refusal 2 exactly: bytes pass it where they are the writing of 1 to 32 kinds and 1 to 16 schemas, whatever their fields hold.
 --     size-positive               an expression has at least one item
+--     Connective                  what the items 04 to 06 share
 --     expr-read, expr-whole         an expression is read exactly where its writing stands and its items are within the count
 --     schema-read, schema-whole     the same of a schema
 --     file-read                   what is read of any bytes is whole, within the counts, and with what is left over the bytes
@@ -30,7 +31,8 @@ size-positive (or a b) = omega arith
 size-positive (except a b) = omega arith
 size-positive always = omega arith
 
-abbrev E : Type 0
+-- an expression as its items' bodies
+abbrev pub E : Type 0
 E = Expr (List ℕ)
 
 -- a leaf's body has 16 bytes
@@ -42,20 +44,26 @@ abbrev Stands : ℕ → List ℕ → E → List ℕ → Type 0
 Stands items s x t = (s ≡ exprBytes x ++ t) × (size x ≤ items) × All Sixteen (leaves x)
 
 -- what the three connectives share
-record Connective (kind : ℕ) (join : E → E → E) : Type 0 where
-  bytes : (a b : E) → exprBytes (join a b) ≡ kind ∷ (exprBytes a ++ exprBytes b)
-  items : (a b : E) → size (join a b) ≡ suc (size a + size b)
-  bodies : (a b : E) → leaves (join a b) ≡ leaves a ++ leaves b
+pub record Connective (kind : ℕ) (join : E → E → E) : Type 0 where
+  -- in bytes: its kind byte, then both
+  pub bytes : (a b : E) → exprBytes (join a b) ≡ kind ∷ (exprBytes a ++ exprBytes b)
+  -- in items
+  pub items : (a b : E) → size (join a b) ≡ suc (size a + size b)
+  -- in leaves
+  pub bodies : (a b : E) → leaves (join a b) ≡ leaves a ++ leaves b
 
-and-is : Connective 4 and
+-- item 04
+pub and-is : Connective 4 and
 unfolding exprBytes size leaves
 and-is = record { bytes = λ a b. refl; items = λ a b. refl; bodies = λ a b. refl }
 
-or-is : Connective 5 or
+-- item 05
+pub or-is : Connective 5 or
 unfolding exprBytes size leaves
 or-is = record { bytes = λ a b. refl; items = λ a b. refl; bodies = λ a b. refl }
 
-except-is : Connective 6 except
+-- item 06
+pub except-is : Connective 6 except
 unfolding exprBytes size leaves
 except-is = record { bytes = λ a b. refl; items = λ a b. refl; bodies = λ a b. refl }
 

@@ -12,9 +12,13 @@ pub mod MaskLaws
 pub mod ReaderLaws
 pub mod GrammarLaws
 pub mod FieldLaws
+pub mod PlaceLaws
+pub mod ExprLaws
+pub mod KindLaws
 pub mod WritingLaws
 pub mod RecordLaws
 pub mod LogLaws
+pub mod WalkLaws
 pub mod RowBytesLaws
 pub mod RefusalLaws
 pub mod AnswerLaws

@@ -1,9 +1,10 @@
 -- A property of each element of a list goes through the ways in which lists are made; and lists one after another. Assumes nothing.
 use Prim.Native.Nat.{ℕ, zero, suc}
 use mathlib.Core.Path.{_≡_, refl, ap, sym}
+use mathlib.Core.Bool.{Bool, true, false}
 use mathlib.Core.List.{List, [], _∷_, _++_, map, flatMap, flatten, append-nil, append-assoc}
 use lib.ListN.{take, drop}
-use Rattle.model.specs.Lists.{All}
+use Rattle.model.specs.Lists.{anyOf, All}
 
 -- Of two lists one behind the other: what holds in both.
 pub all-append : {A : Type 0} (P : A → Type 0) (a b : List A) → All P a → All P b → All P (a ++ b)
@@ -69,3 +70,13 @@ pub flatten-snoc : {A : Type 0} (l : List (List A)) (c : List A) → flatten (l 
 unfolding flatten
 flatten-snoc [] c = append-nil c
 flatten-snoc (x ∷ l) c = rw (flatten-snoc l c) (sym (append-assoc x (flatten l) c))
+
+-- a test that the first element passes
+pub any-here : {A : Type 0} (p : A → Bool) (x : A) (l : List A) → p x ≡ true → anyOf p (x ∷ l) ≡ true
+unfolding anyOf
+any-here p x l e = rw e
+
+-- one that it fails is left to the elements behind
+pub any-behind : {A : Type 0} (p : A → Bool) (x : A) (l : List A) → p x ≡ false → anyOf p (x ∷ l) ≡ anyOf p l
+unfolding anyOf
+any-behind p x l e = rw e

@@ -9,8 +9,9 @@ use lib.Dec.{eqb}
 use borrow.Author.Tests.{eqb-true, eqb-false}
 use Rattle.model.specs.declared.Stage.{Stage}
 use Rattle.model.specs.declared.Stage.the-variants.{Created, Detached, Expired, Discharged, Violated}
-use Rattle.model.specs.Lists.{numbersFrom, All}
+use Rattle.model.specs.Lists.{numbersFrom, anyOf, All}
 use Rattle.model.specs.Stages.{stages, stageNumber}
+use Rattle.model.proofs.BoolLaws.{or-false}
 
 -- What all elements have, each that stands in the list has.
 pub member-has : {A : Type 0} (P : A → Type 0) (l : List A) {x : A} → All P l → List·Memᴰ x l → P x
@@ -20,6 +21,16 @@ member-has P (y ∷ l) {x} h k = go (List·Memᴰ·cases-cons k) (member-has P l
     go : (x ≡ y) ⊎ List·Memᴰ x l → (List·Memᴰ x l → P x) → P x
     go (inl e) ih = subst P (sym e) (h .0)
     go (inr k) ih = ih k
+
+-- Where nothing passes a test, no element does.
+pub anyOf-none : {A : Type 0} (p : A → Bool) (l : List A) {x : A} → anyOf p l ≡ false → List·Memᴰ x l → p x ≡ false
+unfolding anyOf
+anyOf-none p [] e k = absurd (List·Memᴰ·not-nil k)
+anyOf-none p (y ∷ l) {x} e k = go (or-false (p y) _ e) (anyOf-none p l) (List·Memᴰ·cases-cons k)
+  where
+    go : (p y ≡ false) × (anyOf p l ≡ false) → (anyOf p l ≡ false → List·Memᴰ x l → p x ≡ false) → (x ≡ y) ⊎ List·Memᴰ x l → p x ≡ false
+    go h ih (inl same) = ap p same ∙ h .0
+    go h ih (inr k) = ih (h .1) k
 
 -- What stands in the lists that a list's elements give stands in the list of one of them.
 pub mem-flatMap : {A B : Type 0} (f : A → List B) (l : List A) {y : B} → List·Memᴰ y (flatMap f l) → (x : A) × List·Memᴰ x l × List·Memᴰ y (f x)

@@ -26,7 +26,7 @@ use Rattle.model.proofs.TimeLaws.{before-lt, before-le, before-never, S
 use Rattle.model.proofs.BoolLaws.{or-false}
 use Rattle.model.proofs.RefusalLaws.{report-accepted}
 use Rattle.model.proofs.StrikeLaws.{strike-flatMap}
-use Rattle.model.proofs.MemberLaws.{mem-flatMap, flatMap-mem, mem-numbers, numbers-mem, stages-mem, Distinct, Apart, distinct-flatMap, apart-by, distinct-numbers, distinct-stages}
+use Rattle.model.proofs.MemberLaws.{anyOf-none, mem-flatMap, flatMap-mem, mem-numbers, numbers-mem, stages-mem, Distinct, Apart, distinct-flatMap, apart-by, distinct-numbers, distinct-stages}
 
 -- the row of a record's stage where its time is before m, else none
 unfoldable pub rowsAt : Terms → Log → ℕ → ℕ → Record → Stage → List Row
@@ -161,16 +161,6 @@ row-exact terms log m x = rw report-order (there, here)
         (flatMap-mem (subjectRowsAt terms log m (i .schema)) (i .logged)
         (mem-subjectRowsAt terms log m (i .schema) (i .subject) (i .stage) (i .is-subject)
         (rw (i .says) (mem-rowsAt terms log m (i .schema) (i .subject) (i .stage) (i .minute) (i .timed) (i .in-time)))))
-
--- where nothing passes a test, no element does
-anyOf-none : {A : Type 0} (p : A → Bool) (l : List A) {x : A} → anyOf p l ≡ false → List·Memᴰ x l → p x ≡ false
-unfolding anyOf
-anyOf-none p [] e k = absurd (List·Memᴰ·not-nil k)
-anyOf-none p (y ∷ l) {x} e k = go (or-false (p y) _ e) (anyOf-none p l) (List·Memᴰ·cases-cons k)
-  where
-    go : (p y ≡ false) × (anyOf p l ≡ false) → (anyOf p l ≡ false → List·Memᴰ x l → p x ≡ false) → (x ≡ y) ⊎ List·Memᴰ x l → p x ≡ false
-    go h ih (inl same) = ap p same ∙ h .0
-    go h ih (inr k) = ih (h .1) k
 
 same-key : (terms : Terms) (q r : Record) → q .kind ≡ r .kind → keyOf terms q ≡ keyOf terms r → sameKey terms q r ≡ true
 unfolding sameKey

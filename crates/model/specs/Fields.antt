@@ -5,7 +5,7 @@ use mathlib.Core.Bool.{Bool, true, false, cond, not, _&&_, _||_}
 use mathlib.Core.List.{List, [], map}
 use mathlib.Core.Option.{Option, none, some, bind}
 use lib.Dec.{leb, ltb, eqb}
-use lib.ListN.{length, getD}
+use lib.ListN.{length, getD, drop}
 use Rattle.model.specs.declared.StageForm.{StageForm}
 use Rattle.model.specs.declared.StageForm.the-variants.{Is, NotAStage}
 use Rattle.model.specs.declared.NormType.{NormType}
@@ -20,7 +20,7 @@ use Rattle.model.specs.Stages.{stageOf}
 use Rattle.model.specs.Terms.{EventKind, Expr, leaf, and, or, except, always, Schema, Terms, kindAt, schemaAt, kindOf, rank, leaves, leafEvents}
 use Rattle.model.specs.Log.{carries, bothCarry, attributes}
 use Rattle.model.specs.Bytes.{byteAt, numberAt}
-use Rattle.model.specs.Grammar.{SchemaItems, TermsFile}
+use Rattle.model.specs.Grammar.{SchemaItems, TermsFile, readExpr}
 
 -- an event kind from its body (item 01)
 unfoldable pub kindFrom : List ℕ → EventKind
@@ -60,20 +60,24 @@ leafOf body =
     some (record { event = e; lower = l; upper = u })
 
 -- what a leaf that refusal 3 turns away stands for: an open lower bound lets nothing in, an open upper one is never reached
-unfoldable pub neither : Expr Leaf
-neither = leaf (record { event = Kind 0; lower = Open; upper = Open })
+unfoldable pub neither : Leaf
+neither = record { event = Kind 0; lower = Open; upper = Open }
 
--- the expression that a leaf's body stands for (item 03)
-unfoldable pub leafFrom : List ℕ → Expr Leaf
-leafFrom body = elim (leafOf body) [ none ↦ neither | some x ↦ leaf x ]
+-- the leaf that a body stands for (item 03)
+unfoldable pub leafFrom : List ℕ → Leaf
+leafFrom body = elim (leafOf body) [ none ↦ neither | some x ↦ x ]
 
 -- the expression that items stand for (items 03 to 07)
 unfoldable pub exprFrom : Expr (List ℕ) → Expr Leaf
-exprFrom (leaf body) = leafFrom body
+exprFrom (leaf body) = leaf (leafFrom body)
 exprFrom (and a b) = and (exprFrom a) (exprFrom b)
 exprFrom (or a b) = or (exprFrom a) (exprFrom b)
 exprFrom (except a b) = except (exprFrom a) (exprFrom b)
 exprFrom always = always
+
+-- the expression of at most so many items at a place of the terms; where none stands, one that neither occurs nor fails (items 03 to 07)
+unfoldable pub exprAt : List ℕ → ℕ → ℕ → Expr Leaf
+exprAt s at items = elim (readExpr items items (drop at s)) [ none ↦ leaf neither | some found ↦ exprFrom (found .0) ]
 
 -- a schema from its items (item 02)
 unfoldable pub schemaFrom : SchemaItems → Schema
