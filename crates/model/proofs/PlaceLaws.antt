@@ -1,16 +1,16 @@
 -- Bytes at a place: what a reader finds behind `drop` and within `take`, said of the whole bytes and a place in them.
---     byte-drop, byte-take, byte-within        the byte at a place of a part of the bytes
---     number-drop, number-take, number-within  the number there
---     number-step, number-none                 a number byte by byte, past the end too
---     number-two, number-four                  the two sums that code computes
---     drop-here, item-…                        the front of the bytes from a place on, and the item that stands there or does not
---     bound-here, leaf-here, …-wrong-here      a leaf's fields, and refusal 3 of them, by the bytes of the whole
+--     byte-drop, byte-front, byte-take, byte-within, byte-first   the byte at a place of a part of the bytes
+--     number-drop, number-take, number-within                     the number there
+--     number-step, number-none                                    a number byte by byte, past the end too
+--     number-two, number-four                                     the two sums that code computes
+--     drop-here, item-…                                           the front of the bytes from a place on, and the item that stands there or does not
+--     bound-here, leaf-here, …-wrong-here                         a leaf's fields, and refusal 3 of them, by the bytes of the whole
 -- Assumes nothing.
 use Prim.Native.Nat.{ℕ, zero, suc, _+_, _*_, _≤_, _<_}
 use native.Mathlib.Nat.{add-zero}
 use native.Mathlib.Numerals.{add-one, towards-suc}
 use native.Mathlib.Omega.{arith}
-use mathlib.Core.Path.{_≡_, refl, ap, _∙_}
+use mathlib.Core.Path.{_≡_, refl, ap, sym, _∙_}
 use mathlib.Core.Bool.{Bool, true, false, cond, _&&_, _||_}
 use mathlib.Core.List.{List, [], _∷_}
 use mathlib.Core.Option.{Option, none, some, bind}
@@ -26,6 +26,10 @@ use Rattle.model.specs.Fields.{eventOf, boundOf, leafOf, eventWrong, bou
 pub byte-drop : (s : List ℕ) (at i : ℕ) → byteAt (drop at s) i ≡ byteAt s (at + i)
 unfolding byteAt
 byte-drop s at i = getD-drop at s i 0
+
+-- the byte right behind it
+pub byte-front : (s : List ℕ) (at : ℕ) → byteAt (drop at s) 0 ≡ byteAt s at
+byte-front s at = byte-drop s at 0 ∙ ap (byteAt s) (add-zero at)
 
 -- a byte of the front
 pub byte-take : (n : ℕ) (s : List ℕ) (i : ℕ) → i < n → byteAt (take n s) i ≡ byteAt s i
@@ -96,10 +100,14 @@ pub item-past : (kind n : ℕ) (s : List ℕ) (at : ℕ) → length s ≤ at →
 unfolding item
 item-past kind n s at h = rw (drop-of-length-le s h)
 
+other : (kind n : ℕ) (t : List ℕ) → (byteAt t 0 ≡ kind → ⊥) → item kind n t ≡ none
+unfolding item byteAt
+other kind n [] h = refl
+other kind n (b ∷ t) h = rw (ne-eqb b kind h)
+
 -- none of another kind
-pub item-other : (kind n : ℕ) (s : List ℕ) (at : ℕ) → (byteAt s at ≡ kind → ⊥) → at < length s → item kind n (drop at s) ≡ none
-unfolding item
-item-other kind n s at other h = rw (drop-here s at h, ne-eqb _ _ other)
+pub item-other : (kind n : ℕ) (s : List ℕ) (at : ℕ) → (byteAt s at ≡ kind → ⊥) → item kind n (drop at s) ≡ none
+item-other kind n s at h = other kind n (drop at s) (λ e. h (sym (byte-front s at) ∙ e))
 
 -- an item has its kind byte and its body
 short : (kind n : ℕ) (t : List ℕ) → length t < 1 + n → item kind n t ≡ none
@@ -136,7 +144,7 @@ bound-wrong-here terms s at i n h =
     rw (byte-within s at i n (omega arith), bound-byte s at i 1 n (omega arith), bound-byte s at i 2 n (omega arith), bound-offset s at i n h)
 
 -- the first byte at a place
-byte-first : (s : List ℕ) (at n : ℕ) → 0 < n → byteAt (take n (drop at s)) 0 ≡ byteAt s at
+pub byte-first : (s : List ℕ) (at n : ℕ) → 0 < n → byteAt (take n (drop at s)) 0 ≡ byteAt s at
 byte-first s at n h = byte-within s at 0 n h ∙ ap (byteAt s) (add-zero at)
 
 -- a leaf whose body stands at a place

@@ -1,0 +1,260 @@
+// What the bodies of items hold: kinds, events, bounds and leaves at a place of terms, and refusal 3 at each of them.
+use grammar::byte_at;
+use grammar::u16_at;
+use grammar::u32_at;
+use model::Bound;
+use model::Event;
+use model::Leaf;
+use model::Stage;
+use model::StageForm;
+ghost use mathlib.Core.Path.{_≡_};
+ghost use Prim.Native.Nat.{_+_, _*_, _≤_};
+ghost use lib.ListN.{length, take, drop};
+ghost use Rattle.model.specs.Terms.{Terms, kindAt};
+ghost use Rattle.model.specs.Log.{carries};
+ghost use Rattle.model.specs.Grammar.{fileOf};
+ghost use Rattle.model.specs.Fields.{eventOf, boundOf, neither, leafFrom, kindWrong, headWrong, eventWrong, boundWrong, leafWrong};
+ghost use Rattle.model.specs.Calls.{termsOf};
+ghost use Rattle.fields.specs.Decoded.{eventIn, boundIn};
+
+// The attributes that a mask has room for.
+pub const ATTRIBUTES: u8 = 16;
+
+// The largest offset.
+pub const OFFSET_LIMIT: u32 = 2147483647;
+
+// The signs of a bound.
+pub const PLAIN: u8 = 0;
+
+pub const PLUS: u8 = 1;
+
+pub const MINUS: u8 = 2;
+
+pub const OPEN: u8 = 3;
+
+// The form of an event that is a kind; the other forms are stages.
+pub const KIND_FORM: u8 = 0;
+
+// The last norm type; the first is 1.
+pub const LAST_NORM_TYPE: u8 = 4;
+
+pub enum EventForm {
+    Is(Event),
+    NotAnEvent,
+}
+
+pub enum BoundForm {
+    Is(Bound),
+    NotABound,
+}
+
+// Whether a mask has an attribute.
+pub fn carries(mask: u16, attribute: u8) -> bool
+    ensures { λ r. ⌜ r ≡ carries mask attribute ⌝ }
+{
+    if ATTRIBUTES <= attribute {
+        return false;
+    }
+    (mask >> attribute) & 1 == 1
+}
+
+// The mask of a kind; past the last kind it is empty.
+pub fn mask_of(terms: &[u8], kinds: usize, kind: u8) -> u16
+    requires { ⌜ kinds ≡ length (fileOf (now terms) .kinds) ⌝ }
+    ensures { λ r. ⌜ r ≡ kindAt (termsOf (now (terms .entry))) kind .mask ⌝ }
+{
+    let k = kind as usize;
+    if kinds <= k {
+        return 0;
+    }
+    u16_at(terms, 5 * k + 2)
+}
+
+// The key attribute of a kind; past the last kind it is 0.
+pub fn key_of(terms: &[u8], kinds: usize, kind: u8) -> u8
+    requires { ⌜ kinds ≡ length (fileOf (now terms) .kinds) ⌝ }
+    ensures { λ r. ⌜ r ≡ kindAt (termsOf (now (terms .entry))) kind .key ⌝ }
+{
+    let k = kind as usize;
+    if kinds <= k {
+        return 0;
+    }
+    byte_at(terms, 5 * k + 4)
+}
+
+// The event of a form and a number.
+pub fn event_of(form: u8, number: u8) -> EventForm
+    ensures { λ r. ⌜ eventIn r ≡ eventOf form number ⌝ }
+{
+    if form == KIND_FORM {
+        return EventForm::Is(Event::Kind(number));
+    }
+    match Stage::of_form(form) {
+        StageForm::Is(stage) => EventForm::Is(Event::StageOf(stage, number)),
+        StageForm::NotAStage => EventForm::NotAnEvent,
+    }
+}
+
+// The bound at a place.
+pub fn bound_at(terms: &[u8], at: usize) -> BoundForm
+    requires { ⌜ at + 7 ≤ length (now terms) ⌝ }
+    ensures { λ r. ⌜ boundIn r ≡ boundOf (now (terms .entry)) at ⌝ }
+{
+    let event = event_of(terms[at + 1], terms[at + 2]);
+    let offset = u32_at(terms, at + 3);
+    match terms[at] {
+        PLAIN => BoundForm::Is(Bound::Plain(offset)),
+        PLUS => {
+            let EventForm::Is(e) = event else {
+                return BoundForm::NotABound;
+            };
+            BoundForm::Is(Bound::Plus(e, offset))
+        }
+        MINUS => {
+            let EventForm::Is(e) = event else {
+                return BoundForm::NotABound;
+            };
+            BoundForm::Is(Bound::Minus(e, offset))
+        }
+        OPEN => BoundForm::Is(Bound::Open),
+        _ => BoundForm::NotABound,
+    }
+}
+
+// A leaf that neither occurs nor fails: what stands for one that cannot be decoded.
+pub fn no_leaf() -> Leaf
+    ensures { λ r. ⌜ r ≡ neither ⌝ }
+{
+    Leaf {
+        event: Event::Kind(0),
+        lower: Bound::Open,
+        upper: Bound::Open,
+    }
+}
+
+// The leaf whose body starts at a place.
+pub fn leaf_at(terms: &[u8], at: usize) -> Leaf
+    requires { ⌜ at + 16 ≤ length (now terms) ⌝ }
+    ensures { λ r. ⌜ r ≡ leafFrom (take 16 (drop at (now (terms .entry)))) ⌝ }
+{
+    let EventForm::Is(event) = event_of(terms[at], terms[at + 1]) else {
+        return no_leaf();
+    };
+    let BoundForm::Is(lower) = bound_at(terms, at + 2) else {
+        return no_leaf();
+    };
+    let BoundForm::Is(upper) = bound_at(terms, at + 9) else {
+        return no_leaf();
+    };
+    Leaf {
+        event,
+        lower,
+        upper,
+    }
+}
+
+// Refusal 3 at the item 01 with a number.
+pub fn kind_wrong(terms: &[u8], i: usize) -> bool
+    requires { ⌜ 5 * i + 5 ≤ length (now terms) ⌝ }
+    ensures { λ r. ⌜ r ≡ kindWrong i (take 4 (drop (5 * i + 1) (now (terms .entry)))) ⌝ }
+{
+    let number = terms[5 * i + 1];
+    if number as usize != i {
+        return true;
+    }
+    let mask = u16_at(terms, 5 * i + 2);
+    if mask == 0 {
+        return true;
+    }
+    !carries(mask, terms[5 * i + 4])
+}
+
+// Refusal 3 at the item 02 whose body starts at a place: type, subject kind, parties.
+pub fn head_wrong(terms: &[u8], kinds: usize, at: usize) -> bool
+    requires { ⌜ (kinds ≡ length (fileOf (now terms) .kinds)) × (at + 4 ≤ length (now terms)) ⌝ }
+    ensures { λ r. ⌜ r ≡ headWrong (termsOf (now (terms .entry))) (take 4 (drop at (now (terms .entry)))) ⌝ }
+{
+    let norm_type = terms[at];
+    if norm_type == 0 {
+        return true;
+    }
+    if LAST_NORM_TYPE < norm_type {
+        return true;
+    }
+    let subject = terms[at + 1];
+    if kinds <= subject as usize {
+        return true;
+    }
+    let mask = mask_of(terms, kinds, subject);
+    if !carries(mask, terms[at + 2]) {
+        return true;
+    }
+    !carries(mask, terms[at + 3])
+}
+
+// Refusal 3 at an event: no such form, or a kind that is not declared.
+pub fn event_wrong(kinds: usize, form: u8, number: u8) -> bool
+    ensures { λ r. ⌜ ((t : Terms) → kinds ≡ length (t .kinds) → r ≡ eventWrong t form number) ⌝ }
+{
+    if Stage::VIOLATED < form {
+        return true;
+    }
+    if form != KIND_FORM {
+        return false;
+    }
+    kinds <= number as usize
+}
+
+// Refusal 3 at the bound at a place, sign by sign.
+pub fn bound_wrong(terms: &[u8], kinds: usize, at: usize) -> bool
+    requires { ⌜ at + 7 ≤ length (now terms) ⌝ }
+    ensures { λ r. ⌜ ((t : Terms) → kinds ≡ length (t .kinds) → r ≡ boundWrong t (now (terms .entry)) at) ⌝ }
+{
+    let form = terms[at + 1];
+    let number = terms[at + 2];
+    let offset = u32_at(terms, at + 3);
+    match terms[at] {
+        PLAIN => {
+            if form != 0 {
+                return true;
+            }
+            if number != 0 {
+                return true;
+            }
+            OFFSET_LIMIT < offset
+        }
+        PLUS | MINUS => {
+            if event_wrong(kinds, form, number) {
+                return true;
+            }
+            OFFSET_LIMIT < offset
+        }
+        OPEN => {
+            if form != 0 {
+                return true;
+            }
+            if number != 0 {
+                return true;
+            }
+            offset != 0
+        }
+        _ => true,
+    }
+}
+
+// Refusal 3 at the leaf whose body starts at a place; its lower bound is not open.
+pub fn leaf_wrong(terms: &[u8], kinds: usize, at: usize) -> bool
+    requires { ⌜ at + 16 ≤ length (now terms) ⌝ }
+    ensures { λ r. ⌜ ((t : Terms) → kinds ≡ length (t .kinds) → r ≡ leafWrong t (take 16 (drop at (now (terms .entry))))) ⌝ }
+{
+    if event_wrong(kinds, terms[at], terms[at + 1]) {
+        return true;
+    }
+    if terms[at + 2] == OPEN {
+        return true;
+    }
+    if bound_wrong(terms, kinds, at + 2) {
+        return true;
+    }
+    bound_wrong(terms, kinds, at + 9)
+}

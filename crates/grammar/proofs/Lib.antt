@@ -1,0 +1,2 @@
+-- One step of each reader at the places that the code knows.
+pub mod Steps
