@@ -1,0 +1,133 @@
+-- Refusals 2 to 5 of a file in the order in which they are looked for: kind by kind, schema by schema, clause by clause.
+--     any-numbers                                      a test of a list's elements is a test of their numbers
+--     field-faults, citation-faults, unshared-faults   refusals 3, 4 and 5 as faults of schemas by number
+--     field-here, citation-here, unshared-here         the fault at one schema, by the items of its clauses
+--     grammar-here                                     refusal 2 by the counts and by where the bytes left unread start
+--     layout-few, layout-placed                        what a layout tells of the places
+-- Assumes nothing.
+use Prim.Native.Nat.{ℕ, suc, _+_, _*_, _≤_, _<_}
+use native.Mathlib.Nat.{add-zero, zero-add}
+use native.Mathlib.Omega.{arith}
+use mathlib.Core.Path.{_≡_, refl, ap, sym, _∙_}
+use mathlib.Core.Bool.{Bool, true, false, not, _||_}
+use mathlib.Core.List.{List, [], _∷_}
+use lib.Dec.{eqb, ltb, eqb·suc-zero}
+use lib.ListN.{length, getD, take, drop, length-map, drop-of-length-le}
+use lib.Seq.{drop-cons, length-take-le, getD-take}
+use borrow.Author.Tests.{ltb-true, ltb-false}
+use Rattle.model.specs.Lists.{numbersFrom, isEmpty, anyOf}
+use Rattle.model.specs.Terms.{Expr, schemaAt}
+use Rattle.model.specs.Grammar.{SchemaItems, schemasLimit, fileOf, breaksGrammar}
+use Rattle.model.specs.Fields.{exprFrom, schemaFrom, termsFrom, kindWrong, headWrong, schemaWrong, fieldWrong, anyEvent, citationWrong, unsharedEvent}
+use Rattle.model.specs.Calls.{termsOf}
+use Rattle.model.proofs.GrammarLaws.{file-read}
+use Rattle.model.proofs.ExprLaws.{any-event}
+use Rattle.grammar.specs.declared.Layout.{Layout}
+use Rattle.grammar.specs.Places.{noItems, LaidOut}
+use Rattle.terms.specs.declared.EventQuestion.{EventQuestion}
+use Rattle.terms.specs.declared.EventQuestion.the-variants.{CitesFrom, SharesNone}
+use Rattle.terms.specs.declared.Question.the-variants.{OutOfRange, SomeEvent}
+use Rattle.terms.specs.declared.Fault.the-variants.{Field, Citation, Unshared}
+use Rattle.terms.specs.Questions.{asked, askedOfLeaf, clauseHas, clausesHave, schemaHas, Placed}
+use Rattle.terms.proofs.Steps.{schema-here}
+
+-- a test of a list's elements, by their numbers from k on
+any-from : {A : Type 0} (p : A → Bool) (d : A) (f : ℕ → Bool) (k : ℕ) (l : List A) → ((i : ℕ) → f (k + i) ≡ p (getD l i d))
+    → anyOf f (numbersFrom k (length l)) ≡ anyOf p l
+unfolding anyOf numbersFrom
+any-from p d f k [] h = refl
+any-from p d f k (x ∷ l) h = rw (any-from p d f (suc k) l (λ i. ap f (omega arith) ∙ h (suc i)), ap f (sym (add-zero k)) ∙ h 0)
+
+-- by their numbers
+pub any-numbers : {A : Type 0} (p : A → Bool) (d : A) (l : List A) → anyOf p l ≡ anyOf (λ n. p (getD l n d)) (numbersFrom 0 (length l))
+any-numbers p d l = sym (any-from p d (λ n. p (getD l n d)) 0 l (λ i. ap (λ (n : ℕ). p (getD l n d)) (zero-add i)))
+
+module _ (s : List ℕ) where
+  -- refusal 3
+  pub field-faults : fieldWrong (fileOf s)
+      ≡ (anyOf (λ i. kindWrong i (getD (fileOf s .kinds) i [])) (numbersFrom 0 (length (fileOf s .kinds))) || anyOf (schemaHas s Field) (numbersFrom 0 (length (fileOf s .schemas))))
+  unfolding fieldWrong schemaHas termsOf
+  field-faults = rw (any-numbers (schemaWrong (termsFrom (fileOf s))) noItems (fileOf s .schemas))
+
+  -- as many schemas as are read
+  schemas-count : length (termsOf s .schemas) ≡ length (fileOf s .schemas)
+  unfolding termsOf termsFrom
+  schemas-count = length-map (fileOf s .schemas) schemaFrom
+
+  -- refusal 4
+  pub citation-faults : citationWrong (termsOf s) ≡ anyOf (schemaHas s Citation) (numbersFrom 0 (length (fileOf s .schemas)))
+  unfolding citationWrong schemaHas
+  citation-faults = rw schemas-count
+
+  -- refusal 5
+  pub unshared-faults : unsharedEvent (termsOf s) ≡ anyOf (schemaHas s Unshared) (numbersFrom 0 (length (fileOf s .schemas)))
+  unfolding unsharedEvent schemaHas schemaAt
+  unshared-faults = rw (← schemas-count) (any-numbers _ _ (termsOf s .schemas))
+
+  -- a question about events, of a clause's items
+  clause-events : (q : EventQuestion) (x : Expr (List ℕ)) → clauseHas s (SomeEvent q) x ≡ anyEvent (asked (termsOf s) q) (exprFrom x)
+  unfolding clauseHas askedOfLeaf
+  clause-events q x = sym (any-event (asked (termsOf s) q) x)
+
+  module _ (n : ℕ) where
+    -- refusal 3 at a schema: at its head, or at a leaf
+    pub field-here : schemaHas s Field n ≡ (headWrong (termsOf s) (getD (fileOf s .schemas) n noItems .head) || clausesHave s OutOfRange OutOfRange OutOfRange n)
+    unfolding schemaHas schemaWrong clausesHave clauseHas askedOfLeaf
+    field-here = go (headWrong (termsOf s) (getD (fileOf s .schemas) n noItems .head))
+      where
+        x : SchemaItems
+        x = getD (fileOf s .schemas) n noItems
+
+        go : (b : Bool) → (b || clauseHas s OutOfRange (x .create) || clauseHas s OutOfRange (x .detach) || clauseHas s OutOfRange (x .consequent))
+            ≡ (b || (clauseHas s OutOfRange (x .create) || clauseHas s OutOfRange (x .detach) || clauseHas s OutOfRange (x .consequent)))
+        go true = refl
+        go false = refl
+
+    module _ (h : n < length (fileOf s .schemas)) where
+      -- refusal 4
+      pub citation-here : schemaHas s Citation n
+          ≡ clausesHave s (SomeEvent (CitesFrom (3 * n))) (SomeEvent (CitesFrom (3 * n + 1))) (SomeEvent (CitesFrom (3 * n + 2))) n
+      unfolding schemaHas schemaFrom asked clausesHave
+      citation-here = rw (schema-here s n h) (simp clause-events)
+
+      -- refusal 5
+      pub unshared-here : schemaHas s Unshared n ≡ (let q = SomeEvent (SharesNone (schemaAt (termsOf s) n .subject)) in clausesHave s q q q n)
+      unfolding schemaHas schemaFrom asked clausesHave
+      unshared-here = rw (schema-here s n h) (simp clause-events)
+
+-- nothing stands in a list where it has no elements
+empty-count : {A : Type 0} (l : List A) → isEmpty l ≡ eqb (length l) 0
+unfolding isEmpty
+empty-count [] = refl
+empty-count (x ∷ l) = sym (eqb·suc-zero (length l))
+
+-- bytes are left from a place on where it is before the end
+left-over : (s : List ℕ) (rest : ℕ) → not (isEmpty (drop rest s)) ≡ ltb rest (length s)
+unfolding isEmpty
+left-over s rest = go (ltb rest (length s)) refl
+  where
+    go : (b : Bool) → ltb rest (length s) ≡ b → not (isEmpty (drop rest s)) ≡ b
+    go true e = rw (drop-cons s rest 0 (ltb-true rest (length s) e))
+    go false e = rw (drop-of-length-le s (ltb-false rest (length s) e))
+
+-- refusal 2
+pub grammar-here : (s : List ℕ) (kinds schemas rest : ℕ) → kinds ≡ length (fileOf s .kinds) → schemas ≡ length (fileOf s .schemas)
+    → drop rest s ≡ fileOf s .rest → breaksGrammar (fileOf s) ≡ (eqb kinds 0 || eqb schemas 0 || ltb rest (length s))
+unfolding breaksGrammar
+grammar-here s kinds schemas rest e f g = rw (e, f, ← g, empty-count (fileOf s .kinds), empty-count (fileOf s .schemas), left-over s rest)
+
+-- a layout's array has room for all starts
+pub layout-few : (s : List ℕ) (p : Layout) → LaidOut s p → p .schemas ≤ 16
+unfolding schemasLimit
+layout-few s p laid = omega (arith, laid .schemas-read, file-read s .2)
+
+-- a layout tells the places
+pub layout-placed : (s : List ℕ) (p : Layout) → LaidOut s p → length (p .starts) ≡ 48 → Placed s (p .kinds) (take (3 * p .schemas) (p .starts))
+layout-placed s p laid long = (
+  laid .kinds-read,
+  length-take-le (3 * p .schemas) (p .starts) (omega (arith, layout-few s p laid)) ∙ ap (λ (k : ℕ). 3 * k) (laid .schemas-read),
+  λ n h. rw (here (3 * n) (omega (arith, laid .schemas-read)), here (3 * n + 1) (omega (arith, laid .schemas-read)), here (3 * n + 2) (omega (arith, laid .schemas-read))) (laid .starts-read n h),
+)
+  where
+    here : (k : ℕ) → k < 3 * p .schemas → getD (take (3 * p .schemas) (p .starts)) k 0 ≡ getD (p .starts) k 0
+    here k h = getD-take (3 * p .schemas) (p .starts) k 0 h

@@ -1,0 +1,111 @@
+-- One step of each check of terms: schemas at their places, and tests of masks and lists as the code makes them.
+--     schema-here                   a schema that is there stands for its items
+--     subject-here, subject-past    its subject kind, and the one past the last schema
+--     unshared-and                  two masks share nothing where their and is 0
+--     any-one                       a test of one element
+--     leaf-asked                    a question about a leaf's events, one after another
+--     Left, left-…                  a test of the numbers below n, one after another
+-- Assumes nothing.
+use Prim.Native.Nat.{ℕ, zero, suc, _+_, _-_, _*_, _^_, _≤_, _<_}
+use native.Mathlib.Nat.{sub-zero}
+use native.Mathlib.Numerals.{add-one}
+use native.Mathlib.Omega.{arith}
+use mathlib.Core.Path.{_≡_, refl, ap, sym, _∙_}
+use mathlib.Core.Bool.{Bool, true, false, not, _||_, or-false, or-assoc}
+use mathlib.Core.List.{List, [], _∷_, _++_, map}
+use lib.Dec.{eqb}
+use lib.Bits.{bitAnd}
+use lib.ListN.{length, getD, length-map, List·getD-eq-default}
+use borrow.Author.Tests.{eqb-true, eqb-false}
+use Rattle.model.specs.Lists.{numbersFrom, anyOf}
+use Rattle.model.specs.declared.Leaf.{Leaf}
+use Rattle.model.specs.Terms.{Terms, Schema, schemaAt, boundEvents, leafEvents}
+use Rattle.model.specs.Log.{attributes, bothCarry}
+use Rattle.model.specs.Bytes.{byteAt}
+use Rattle.model.specs.Grammar.{fileOf}
+use Rattle.model.specs.Fields.{leafFrom, schemaFrom, termsFrom}
+use Rattle.model.specs.Calls.{termsOf}
+use Rattle.model.proofs.MaskLaws.{shares-and}
+use Rattle.model.proofs.PlaceLaws.{byte-within}
+use Rattle.model.proofs.ListLaws.{any-here, any-behind}
+use Rattle.grammar.specs.Places.{noItems, Starts}
+use Rattle.terms.specs.declared.EventQuestion.{EventQuestion}
+use Rattle.terms.specs.declared.Question.the-variants.{SomeEvent}
+use Rattle.terms.specs.Questions.{asked, askedOfLeaf}
+
+-- an element that is there, in another form, whatever stands for those that are not
+getD-map-in : {A B : Type 0} (f : A → B) (l : List A) (n : ℕ) (d : B) (e : A) → n < length l → getD (map f l) n d ≡ f (getD l n e)
+getD-map-in f [] n d e h = absurd (omega arith)
+getD-map-in f (x ∷ l) zero d e h = refl
+getD-map-in f (x ∷ l) (suc n) d e h = getD-map-in f l n d e (omega arith)
+
+-- a schema that is there stands for its items
+pub schema-here : (s : List ℕ) (n : ℕ) → n < length (fileOf s .schemas) → schemaAt (termsOf s) n ≡ schemaFrom (getD (fileOf s .schemas) n noItems)
+unfolding schemaAt termsOf termsFrom
+schema-here s n h = getD-map-in schemaFrom (fileOf s .schemas) n _ noItems h
+
+-- its subject kind is the second byte of its head, which stands right before the create clause
+pub subject-here : (s starts : List ℕ) (n : ℕ) → Starts s (fileOf s .schemas) starts → n < length (fileOf s .schemas)
+    → schemaAt (termsOf s) n .subject ≡ byteAt s (getD starts (3 * n) 0 - 3)
+unfolding schemaFrom
+subject-here s starts n laid h =
+    let found = laid n h .1 in
+    let at = getD starts (3 * n) 0 in
+    rw (schema-here s n h, found .head-body) (byte-within s (at - 4) 1 4 (omega arith) ∙ ap (byteAt s) (omega (arith, found .head-inside .0)))
+
+-- past the last schema
+pub subject-past : (s : List ℕ) (n : ℕ) → length (fileOf s .schemas) ≤ n → schemaAt (termsOf s) n .subject ≡ 0
+unfolding schemaAt termsOf termsFrom
+subject-past s n h = ap (λ (x : Schema). x .subject) (List·getD-eq-default (map schemaFrom (fileOf s .schemas)) _ (omega (arith, length-map (fileOf s .schemas) schemaFrom)))
+
+-- two masks share nothing where their and is 0
+pub unshared-and : (x y : ℕ) → x < 2 ^ 16 → eqb (bitAnd x y) 0 ≡ not (anyOf (bothCarry x y) (numbersFrom 0 attributes))
+unfolding attributes
+unshared-and x y h = go (eqb (bitAnd x y) 0) (anyOf (bothCarry x y) (numbersFrom 0 16)) refl refl
+  where
+    go : (b t : Bool) → eqb (bitAnd x y) 0 ≡ b → anyOf (bothCarry x y) (numbersFrom 0 16) ≡ t → b ≡ not t
+    go true t e f = rw (sym f ∙ shares-and 16 x y h .1 (eqb-true (bitAnd x y) 0 e))
+    go false true e f = refl
+    go false false e f = absurd (eqb-false (bitAnd x y) 0 e (shares-and 16 x y h .0 f))
+
+-- a test of one element
+pub any-one : {A : Type 0} (p : A → Bool) (x : A) → anyOf p (x ∷ []) ≡ p x
+unfolding anyOf
+any-one p x = or-false (p x)
+
+-- a test of two lists one behind the other
+any-append : {A : Type 0} (p : A → Bool) (a b : List A) → anyOf p (a ++ b) ≡ (anyOf p a || anyOf p b)
+unfolding anyOf
+any-append p [] b = refl
+any-append p (x ∷ a) b = rw (any-append p a b) (sym (or-assoc (p x) (anyOf p a) (anyOf p b)))
+
+-- a question about a leaf's events: its own, its lower bound's, its upper bound's
+pub leaf-asked : (terms : Terms) (q : EventQuestion) (x : Leaf) (body : List ℕ) → x ≡ leafFrom body → askedOfLeaf terms (SomeEvent q) body
+    ≡ (asked terms q (x .event) || (anyOf (asked terms q) (boundEvents (x .lower)) || anyOf (asked terms q) (boundEvents (x .upper))))
+unfolding askedOfLeaf leafEvents anyOf
+leaf-asked terms q x body e = rw (← e) (ap (λ (b : Bool). asked terms q (x .event) || b) (any-append (asked terms q) (boundEvents (x .lower)) (boundEvents (x .upper))))
+
+-- a test of the numbers below n, of which those from i on are left
+abbrev pub Left : (ℕ → Bool) → ℕ → ℕ → Type 0
+Left p n i = anyOf p (numbersFrom i (n - i)) ≡ anyOf p (numbersFrom 0 n)
+
+module _ (p : ℕ → Bool) (n : ℕ) where
+  -- at the start all are left
+  pub left-start : Left p n 0
+  left-start = rw (sub-zero n)
+
+  module _ (i : ℕ) (left : Left p n i) where
+    -- the next number passes it
+    pub left-found : i < n → p i ≡ true → true ≡ anyOf p (numbersFrom 0 n)
+    unfolding numbersFrom
+    left-found h e = let next : n - i ≡ suc (n - suc i) = omega arith in sym (any-here p i (numbersFrom (suc i) (n - suc i)) e) ∙ (rw next at left)
+
+    -- it fails it: those behind it are left
+    pub left-next : i < n → p i ≡ false → Left p n (i + 1)
+    unfolding numbersFrom
+    left-next h e = let next : n - i ≡ suc (n - suc i) = omega arith in rw (add-one i) (sym (any-behind p i (numbersFrom (suc i) (n - suc i)) e) ∙ (rw next at left))
+
+    -- no number is left
+    pub left-end : n ≤ i → false ≡ anyOf p (numbersFrom 0 n)
+    unfolding numbersFrom anyOf
+    left-end h = let past : n - i ≡ 0 = omega arith in rw past at left
