@@ -33,6 +33,23 @@ refusal-none (c ∷ checks) n = go (c .holds) (refusal-none checks (n .1))
     go true ih = (λ e. absurd (omega arith), λ e. absurd (true≢false (e .0)))
     go false ih = (λ e. (refl, ih .0 e), λ e. ih .1 (e .1))
 
+-- where a check in front holds, those behind do not count
+pub refusal-ahead : (a b : List Check) → 1 ≤ refusal a → refusal (a ++ b) ≡ refusal a
+unfolding refusal
+refusal-ahead [] b h = absurd (omega arith)
+refusal-ahead (c ∷ a) b h = go (c .holds) h (refusal-ahead a b)
+  where
+    go : (x : Bool) → 1 ≤ cond x (c .number) (refusal a) → (1 ≤ refusal a → refusal (a ++ b) ≡ refusal a)
+        → cond x (c .number) (refusal (a ++ b)) ≡ cond x (c .number) (refusal a)
+    go true h ih = refl
+    go false h ih = ih h
+
+-- where none in front holds, those behind decide
+pub refusal-behind : (a b : List Check) → NoneHolds a → refusal (a ++ b) ≡ refusal b
+unfolding refusal
+refusal-behind [] b n = refl
+refusal-behind (c ∷ a) b n = rw (n .0) (refusal-behind a b (n .1))
+
 -- the first check that holds in a list, with its number n
 pub record FirstThatHolds (checks : List Check) (n : ℕ) : Type 0 where
   -- the checks before it
@@ -198,7 +215,7 @@ none-append (c ∷ a) b =
     (λ h. ((h .0, ih .0 (h .1) .0), ih .0 (h .1) .1), λ h. (h .0 .0, ih .1 (h .0 .1, h .1)))
 
 -- no check of 1 to 5 holds, exactly if the terms are accepted
-terms-none : (terms : List ℕ) → NoneHolds (termsChecks terms) ↔ TermsAccepted terms
+pub terms-none : (terms : List ℕ) → NoneHolds (termsChecks terms) ↔ TermsAccepted terms
 unfolding termsChecks
 terms-none terms = (
   λ h. record { short = h .0; grammar = h .1 .0; fields = h .1 .1 .0; citations = h .1 .1 .1 .0; shared = h .1 .1 .1 .1 .0 },

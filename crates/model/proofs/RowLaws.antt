@@ -16,7 +16,7 @@ use Rattle.model.specs.Lists.{numbersFrom, anyOf}
 use Rattle.model.specs.Time.{before}
 use Rattle.model.specs.Stages.{stages}
 use Rattle.model.specs.Terms.{Terms, schemaAt}
-use Rattle.model.specs.Log.{Record, Log, keyOf, sameKey}
+use Rattle.model.specs.Log.{Record, Log, keyOf, hasKey, sameKey}
 use Rattle.model.specs.Meaning.{stageTime}
 use Rattle.model.specs.Rows.{Row, rowOf, rowAt, isSubject, subjectRows, timedRows, strike, reportRows}
 use Rattle.model.specs.Records.{keyRepeats}
@@ -163,7 +163,7 @@ row-exact terms log m x = rw report-order (there, here)
         (rw (i .says) (mem-rowsAt terms log m (i .schema) (i .subject) (i .stage) (i .minute) (i .timed) (i .in-time)))))
 
 same-key : (terms : Terms) (q r : Record) → q .kind ≡ r .kind → keyOf terms q ≡ keyOf terms r → sameKey terms q r ≡ true
-unfolding sameKey
+unfolding sameKey hasKey
 same-key terms q r a b = rw (eq-eqb (q .kind) (r .kind) a, eq-eqb (keyOf terms q) (keyOf terms r) b)
 
 -- a record and a later one are not of one kind with one key
