@@ -2,6 +2,7 @@
 ghost use mathlib.Core.Path.{_≡_};
 ghost use Rattle.model.specs.Time.{laterOf, earlierOf};
 ghost use Rattle.model.specs.Stages.{stageOf, stageNumber};
+ghost use Rattle.model.specs.Answers.{refusalNumber};
 
 // A minute at which something happens, or none.
 pub enum Time {
@@ -138,6 +139,32 @@ pub enum Refusal {
     NoRoom,
     NoSchema,
     NoSubject,
+}
+
+impl Refusal {
+    // The table's number for the refusal.
+    pub fn number(self) -> u8
+        ensures { λ r. ⌜ r ≡ refusalNumber self ⌝ }
+    {
+        match self {
+            Refusal::TermsTooLong => 1,
+            Refusal::BrokenGrammar => 2,
+            Refusal::FieldOutOfRange => 3,
+            Refusal::CitationTooHigh => 4,
+            Refusal::NothingShared => 5,
+            Refusal::UsedTooLong => 6,
+            Refusal::BrokenRecord => 7,
+            Refusal::StampFalls => 8,
+            Refusal::KeyRepeats => 9,
+            Refusal::PageTooShort => 10,
+            Refusal::NotOneRecord => 11,
+            Refusal::StampTooLow => 12,
+            Refusal::KeyPresent => 13,
+            Refusal::NoRoom => 14,
+            Refusal::NoSchema => 15,
+            Refusal::NoSubject => 16,
+        }
+    }
 }
 
 // What a check answers.

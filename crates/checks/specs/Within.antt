@@ -1,0 +1,13 @@
+-- A case lies within the text and the two buffers.
+use Prim.Native.Nat.{ℕ, _≤_}
+use mathlib.Core.List.{List}
+use lib.ListN.{length}
+use Rattle.checks.specs.declared.Case.{Case}
+
+-- Its name and its end are places of the text, its terms and its log fill no more than their buffers.
+pub record Within (case : Case) (text terms log : List ℕ) : Type 0 where
+  pub named : case .name ≤ case .behind
+  pub name-ends : case .behind ≤ case .at
+  pub ends : case .at ≤ length text
+  pub terms-fit : case .terms ≤ length terms
+  pub log-fits : case .log ≤ length log

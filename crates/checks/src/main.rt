@@ -1,0 +1,456 @@
+// Runs calls 1 and 2 on the cases of its input and prints what each answers. The first lines of the file stdin say how a case is written.
+use libc::STDIN_FILENO;
+use libc::STDOUT_FILENO;
+use log::check_log;
+use model::Checked;
+use terms::check_terms;
+ghost use Prim.Native.Nat.{_+_, _≤_};
+ghost use lib.ListN.{length};
+ghost use Rattle.checks.specs.Within.{Within};
+
+// What stands for a character that is no digit, and for two that are no byte.
+const NO_DIGIT: u8 = 16;
+
+const NO_BYTE: u16 = 256;
+
+// A number up to this one has room for another digit.
+const NUMBER_LIMIT: usize = 1844674407370955160;
+
+// How far the text is read, and how many bytes of a buffer are filled.
+struct Filled {
+    at: usize,
+    length: usize,
+}
+
+// How far the text is read, and the number that stood there.
+struct Number {
+    at: usize,
+    value: usize,
+}
+
+// A case: where its name starts and ends, how far the text is read, how many bytes its terms and its log buffer have, the used length, and
+// whether call 2 is asked for.
+struct Case {
+    name: usize,
+    behind: usize,
+    at: usize,
+    terms: usize,
+    log: usize,
+    used: usize,
+    of_log: bool,
+}
+
+// Spaces and line ends.
+fn blank(b: u8) -> bool {
+    b <= b' '
+}
+
+// Whether a comment goes on at a byte.
+fn in_comment(comment: bool, b: u8) -> bool {
+    match b {
+        b'#' => true,
+        b'\n' => false,
+        _ => comment,
+    }
+}
+
+// Whether a byte stands between words.
+fn between(comment: bool, b: u8) -> bool {
+    if comment {
+        return true;
+    }
+    blank(b)
+}
+
+// The place of the next word, past spaces, line ends and comments.
+fn skip(text: &[u8], from: usize) -> usize
+    requires { ⌜ from ≤ length (now text) ⌝ }
+    ensures { λ r. ⌜ (from ≤ r) × (r ≤ length (now (text .entry))) ⌝ }
+{
+    let mut at = from;
+    let mut comment = false;
+    while at < text.len() {
+        comment = in_comment(comment, text[at]);
+        if !between(comment, text[at]) {
+            return at;
+        }
+        at += 1;
+    }
+    at
+}
+
+// Where the word at a place ends.
+fn word_end(text: &[u8], from: usize) -> usize
+    requires { ⌜ from ≤ length (now text) ⌝ }
+    ensures { λ r. ⌜ (from ≤ r) × (r ≤ length (now (text .entry))) ⌝ }
+{
+    let mut at = from;
+    while at < text.len() {
+        if blank(text[at]) {
+            return at;
+        }
+        at += 1;
+    }
+    at
+}
+
+// Whether no word goes on at a place.
+fn ends_word(text: &[u8], at: usize) -> bool {
+    if text.len() <= at {
+        return true;
+    }
+    blank(text[at])
+}
+
+// The word behind a keyword; the place itself where another word stands there.
+fn past(text: &[u8], at: usize, keyword: &[u8]) -> usize
+    requires { ⌜ at ≤ length (now text) ⌝ }
+    ensures { λ r. ⌜ (at ≤ r) × (r ≤ length (now (text .entry))) ⌝ }
+{
+    let end = word_end(text, at);
+    if !check::same(&text[at..end], keyword) {
+        return at;
+    }
+    skip(text, end)
+}
+
+// The value of a hexadecimal digit, in capitals.
+fn digit(b: u8) -> u8
+    ensures { λ r. ⌜ r ≤ 16 ⌝ }
+{
+    match b {
+        b'0'..=b'9' => b - b'0',
+        b'A'..=b'F' => b - b'A' + 10,
+        _ => NO_DIGIT,
+    }
+}
+
+// The byte that two digits stand for.
+fn pair(high: u8, low: u8) -> u16
+    ensures { λ r. ⌜ r ≤ 256 ⌝ }
+{
+    let h = digit(high);
+    let l = digit(low);
+    if NO_DIGIT <= h {
+        return NO_BYTE;
+    }
+    if NO_DIGIT <= l {
+        return NO_BYTE;
+    }
+    h as u16 * 16 + l as u16
+}
+
+// Puts the bytes that digits stand for behind the first ones of a buffer, as far as there are digits and room.
+fn read_digits(text: &[u8], from: usize, buffer: &mut [u8], start: usize) -> Filled
+    requires { ⌜ (from ≤ length (now text)) × (start ≤ length (now buffer)) ⌝ }
+    ensures { λ r. ⌜ (from ≤ r .at) × (r .at ≤ length (now (text .entry))) × (start ≤ r .length) × (r .length ≤ length (now (buffer .exit))) ⌝ }
+{
+    let mut at = from;
+    let mut end = start;
+    while end < buffer.len() {
+        if text.len() - at < 2 {
+            return Filled { at, length: end };
+        }
+        let byte = pair(text[at], text[at + 1]);
+        if NO_BYTE <= byte {
+            return Filled { at, length: end };
+        }
+        buffer[end] = byte as u8;
+        at += 2;
+        end += 1;
+    }
+    Filled { at, length: end }
+}
+
+// A decimal number, as far as its digits go and fit.
+fn read_number(text: &[u8], from: usize) -> Number
+    requires { ⌜ from ≤ length (now text) ⌝ }
+    ensures { λ r. ⌜ (from ≤ r .at) × (r .at ≤ length (now (text .entry))) ⌝ }
+{
+    let mut at = from;
+    let mut value: usize = 0;
+    while at < text.len() {
+        let d = digit(text[at]);
+        if 10 <= d {
+            return Number { at, value };
+        }
+        if NUMBER_LIMIT < value {
+            return Number { at, value };
+        }
+        value = value * 10 + d as usize;
+        at += 1;
+    }
+    Number { at, value }
+}
+
+// Behind a +: what is added to the bytes of a token from one copy to the next.
+fn read_step(text: &[u8], at: usize, step: &mut [u8]) -> usize
+    requires { ⌜ at ≤ length (now text) ⌝ }
+    ensures { λ r. ⌜ (at ≤ r) × (r ≤ length (now (text .entry))) ⌝ }
+{
+    if text.len() <= at {
+        return at;
+    }
+    if text[at] != b'+' {
+        return at;
+    }
+    let read = read_digits(text, at + 1, step, 0);
+    if read.length == 0 {
+        return at;
+    }
+    read.at
+}
+
+// Behind a *: how many copies of a token there are; else one.
+fn read_copies(text: &[u8], at: usize) -> Number
+    requires { ⌜ at ≤ length (now text) ⌝ }
+    ensures { λ r. ⌜ (at ≤ r .at) × (r .at ≤ length (now (text .entry))) ⌝ }
+{
+    if text.len() <= at {
+        return Number { at, value: 1 };
+    }
+    if text[at] != b'*' {
+        return Number { at, value: 1 };
+    }
+    read_number(text, at + 1)
+}
+
+// A byte of a step; past its end it is 0.
+fn step_at(step: &[u8], i: usize) -> u8 {
+    if i < step.len() {
+        return step[i];
+    }
+    0
+}
+
+// One more copy of the bytes before a place, the step added.
+fn copy(buffer: &mut [u8], at: usize, size: usize, step: &[u8])
+    requires { ⌜ (size ≤ at) × (at + size ≤ length (now buffer)) ⌝ }
+{
+    let mut i: usize = 0;
+    while i < size {
+        buffer[at + i] = std::num::wrapping_add_u8(buffer[at + i - size], step_at(step, i));
+        i += 1;
+    }
+}
+
+// Copies the bytes from start to end until they stand there so often. The place behind them; start itself where they don't fit.
+fn repeat(buffer: &mut [u8], start: usize, end: usize, copies: usize, step: &[u8]) -> usize
+    requires { ⌜ (start ≤ end) × (end ≤ length (now buffer)) ⌝ }
+    ensures { λ r. ⌜ r ≤ length (now (buffer .exit)) ⌝ }
+{
+    let size = end - start;
+    if size == 0 {
+        return start;
+    }
+    if copies == 0 {
+        return start;
+    }
+    let mut to = end;
+    let mut left = copies;
+    while 1 < left {
+        if buffer.len() - to < size {
+            return start;
+        }
+        copy(buffer, to, size, step);
+        to += size;
+        left -= 1;
+    }
+    to
+}
+
+// A token: its bytes go behind the first ones of a buffer. Where no token stands or it does not fit, the text is read no further.
+fn read_token(text: &[u8], from: usize, buffer: &mut [u8], start: usize) -> Filled
+    requires { ⌜ (from ≤ length (now text)) × (start ≤ length (now buffer)) ⌝ }
+    ensures { λ r. ⌜ (from ≤ r .at) × (r .at ≤ length (now (text .entry))) × (r .length ≤ length (now (buffer .exit))) ⌝ }
+{
+    let mut step = [0u8; 256];
+    let first = read_digits(text, from, buffer, start);
+    let stepped = read_step(text, first.at, &mut step);
+    let copies = read_copies(text, stepped);
+    let end = repeat(buffer, start, first.length, copies.value, &step);
+    let nothing = Filled {
+        at: from,
+        length: start,
+    };
+    if end <= start {
+        return nothing;
+    }
+    if !ends_word(text, copies.at) {
+        return nothing;
+    }
+    Filled {
+        at: copies.at,
+        length: end,
+    }
+}
+
+// Tokens one behind another, into a buffer from its first byte on.
+fn read_bytes(text: &[u8], from: usize, buffer: &mut [u8]) -> Filled
+    requires { ⌜ from ≤ length (now text) ⌝ }
+    ensures { λ r. ⌜ (from ≤ r .at) × (r .at ≤ length (now (text .entry))) × (r .length ≤ length (now (buffer .exit))) ⌝ }
+{
+    let mut at = from;
+    let mut filled: usize = 0;
+    while at < text.len() {
+        let token = read_token(text, at, buffer, filled);
+        if token.at <= at {
+            return Filled { at, length: filled };
+        }
+        at = skip(text, token.at);
+        filled = token.length;
+    }
+    Filled { at, length: filled }
+}
+
+// The bytes behind a keyword; where it does not stand, the buffer keeps those that it has.
+fn read_section(text: &[u8], from: usize, keyword: &[u8], buffer: &mut [u8], had: usize) -> Filled
+    requires { ⌜ (from ≤ length (now text)) × (had ≤ length (now buffer)) ⌝ }
+    ensures { λ r. ⌜ (from ≤ r .at) × (r .at ≤ length (now (text .entry))) × (r .length ≤ length (now (buffer .exit))) ⌝ }
+{
+    let at = past(text, from, keyword);
+    if at <= from {
+        return Filled {
+            at: from,
+            length: had,
+        };
+    }
+    read_bytes(text, at, buffer)
+}
+
+// The used length, if it is given.
+fn read_used(text: &[u8], from: usize, otherwise: usize) -> Number
+    requires { ⌜ from ≤ length (now text) ⌝ }
+    ensures { λ r. ⌜ (from ≤ r .at) × (r .at ≤ length (now (text .entry))) ⌝ }
+{
+    let nothing = Number {
+        at: from,
+        value: otherwise,
+    };
+    let at = past(text, from, b"used");
+    if at <= from {
+        return nothing;
+    }
+    let used = read_number(text, at);
+    if used.at <= at {
+        return nothing;
+    }
+    if !ends_word(text, used.at) {
+        return nothing;
+    }
+    Number {
+        at: skip(text, used.at),
+        value: used.value,
+    }
+}
+
+// The case at a place, as far as it goes; the terms are those of the case before where it gives none.
+fn read_case(text: &[u8], from: usize, terms: &mut [u8], had: usize, log: &mut [u8]) -> Case
+    requires { ⌜ (from ≤ length (now text)) × (had ≤ length (now terms)) ⌝ }
+    ensures { λ r. ⌜ Within r (now (text .entry)) (now (terms .exit)) (now (log .exit)) ⌝ }
+{
+    let name = past(text, from, b"case");
+    let behind = word_end(text, name);
+    let of_terms = read_section(text, skip(text, behind), b"terms", terms, had);
+    let of_log = read_section(text, of_terms.at, b"log", log, 0);
+    let used = read_used(text, of_log.at, of_log.length);
+    Case {
+        name,
+        behind,
+        at: used.at,
+        terms: of_terms.length,
+        log: of_log.length,
+        used: used.value,
+        of_log: of_terms.at < used.at,
+    }
+}
+
+// Whether a case has a name, and the text ends behind it or goes on with another case.
+fn whole(text: &[u8], case: Case) -> bool
+    requires { ⌜ case .at ≤ length (now text) ⌝ }
+{
+    if case.behind <= case.name {
+        return false;
+    }
+    if text.len() <= case.at {
+        return true;
+    }
+    case.at < past(text, case.at, b"case")
+}
+
+// Prints an answer.
+fn print(checked: Checked) {
+    match checked {
+        Checked::Accepted => {
+            io::write_all(STDOUT_FILENO, b": accepted\n");
+        }
+        Checked::Refused(refusal) => {
+            io::write_all(STDOUT_FILENO, b": refused ");
+            io::print_decimal(STDOUT_FILENO, refusal.number() as u64);
+            io::write_all(STDOUT_FILENO, b"\n");
+        }
+    }
+}
+
+// Says that the text is not written as its first lines say.
+fn print_bad() {
+    io::write_all(STDOUT_FILENO, b"bad cases\n");
+}
+
+// Asks for call 1, or call 2.
+fn answer(terms: &[u8], log: &[u8], used: usize, of_log: bool) -> Checked {
+    if of_log {
+        return check_log(terms, log, used);
+    }
+    check_terms(terms)
+}
+
+// Runs a case and prints its name and the answer.
+fn run_case(text: &[u8], case: Case, terms: &[u8], log: &[u8])
+    requires { ⌜ Within case (now text) (now terms) (now log) ⌝ }
+{
+    let name = case.name;
+    let behind = case.behind;
+    let terms_length = case.terms;
+    let log_length = case.log;
+    io::write_all(STDOUT_FILENO, &text[name..behind]);
+    print(answer(
+        &terms[..terms_length],
+        &log[..log_length],
+        case.used,
+        case.of_log,
+    ));
+}
+
+// Runs the cases of a text, up to the first that is not written as it should be.
+fn run(text: &[u8], terms: &mut [u8], log: &mut [u8]) {
+    let mut at = skip(text, 0);
+    let mut had: usize = 0;
+    while at < text.len() {
+        let case = read_case(text, at, terms, had, log);
+        if case.name <= at {
+            print_bad();
+            return;
+        }
+        if !whole(text, case) {
+            print_bad();
+            return;
+        }
+        run_case(text, case, terms, log);
+        at = case.at;
+        had = case.terms;
+    }
+}
+
+// Reads the whole text. One that fills its buffer may go on past it, and counts as badly written.
+fn main() {
+    let mut text = [0u8; 131072];
+    let mut terms = [0u8; 20000];
+    let mut log = [0u8; 40000];
+    let n = io::read_full(STDIN_FILENO, &mut text);
+    if n == text.len() {
+        print_bad();
+        return;
+    }
+    run(&text[..n], &mut terms, &mut log);
+}
