@@ -6,8 +6,13 @@ use Rattle.checks.specs.declared.Case.{Case}
 
 -- Its name and its end are places of the text, its terms and its log fill no more than their buffers.
 pub record Within (case : Case) (text terms log : List ℕ) : Type 0 where
+  -- the name ends behind its start
   pub named : case .name ≤ case .behind
+  -- and before the case does
   pub name-ends : case .behind ≤ case .at
+  -- the case ends inside the text
   pub ends : case .at ≤ length text
+  -- its terms are in their buffer
   pub terms-fit : case .terms ≤ length terms
+  -- its log is in its buffer
   pub log-fits : case .log ≤ length log

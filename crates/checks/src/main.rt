@@ -1,31 +1,27 @@
 // Runs calls 1 and 2 on the cases of its input and prints what each answers. The first lines of the file stdin say how a case is written.
+mod text;
+
 use libc::STDIN_FILENO;
 use libc::STDOUT_FILENO;
 use log::check_log;
 use model::Checked;
 use terms::check_terms;
+use text::NO_BYTE;
+use text::Number;
+use text::ends_word;
+use text::pair;
+use text::past;
+use text::read_number;
+use text::skip;
+use text::word_end;
 ghost use Prim.Native.Nat.{_+_, _≤_};
 ghost use lib.ListN.{length};
 ghost use Rattle.checks.specs.Within.{Within};
-
-// What stands for a character that is no digit, and for two that are no byte.
-const NO_DIGIT: u8 = 16;
-
-const NO_BYTE: u16 = 256;
-
-// A number up to this one has room for another digit.
-const NUMBER_LIMIT: usize = 1844674407370955160;
 
 // How far the text is read, and how many bytes of a buffer are filled.
 struct Filled {
     at: usize,
     length: usize,
-}
-
-// How far the text is read, and the number that stood there.
-struct Number {
-    at: usize,
-    value: usize,
 }
 
 // A case: where its name starts and ends, how far the text is read, how many bytes its terms and its log buffer have, the used length, and
@@ -38,106 +34,6 @@ struct Case {
     log: usize,
     used: usize,
     of_log: bool,
-}
-
-// Spaces and line ends.
-fn blank(b: u8) -> bool {
-    b <= b' '
-}
-
-// Whether a comment goes on at a byte.
-fn in_comment(comment: bool, b: u8) -> bool {
-    match b {
-        b'#' => true,
-        b'\n' => false,
-        _ => comment,
-    }
-}
-
-// Whether a byte stands between words.
-fn between(comment: bool, b: u8) -> bool {
-    if comment {
-        return true;
-    }
-    blank(b)
-}
-
-// The place of the next word, past spaces, line ends and comments.
-fn skip(text: &[u8], from: usize) -> usize
-    requires { ⌜ from ≤ length (now text) ⌝ }
-    ensures { λ r. ⌜ (from ≤ r) × (r ≤ length (now (text .entry))) ⌝ }
-{
-    let mut at = from;
-    let mut comment = false;
-    while at < text.len() {
-        comment = in_comment(comment, text[at]);
-        if !between(comment, text[at]) {
-            return at;
-        }
-        at += 1;
-    }
-    at
-}
-
-// Where the word at a place ends.
-fn word_end(text: &[u8], from: usize) -> usize
-    requires { ⌜ from ≤ length (now text) ⌝ }
-    ensures { λ r. ⌜ (from ≤ r) × (r ≤ length (now (text .entry))) ⌝ }
-{
-    let mut at = from;
-    while at < text.len() {
-        if blank(text[at]) {
-            return at;
-        }
-        at += 1;
-    }
-    at
-}
-
-// Whether no word goes on at a place.
-fn ends_word(text: &[u8], at: usize) -> bool {
-    if text.len() <= at {
-        return true;
-    }
-    blank(text[at])
-}
-
-// The word behind a keyword; the place itself where another word stands there.
-fn past(text: &[u8], at: usize, keyword: &[u8]) -> usize
-    requires { ⌜ at ≤ length (now text) ⌝ }
-    ensures { λ r. ⌜ (at ≤ r) × (r ≤ length (now (text .entry))) ⌝ }
-{
-    let end = word_end(text, at);
-    if !check::same(&text[at..end], keyword) {
-        return at;
-    }
-    skip(text, end)
-}
-
-// The value of a hexadecimal digit, in capitals.
-fn digit(b: u8) -> u8
-    ensures { λ r. ⌜ r ≤ 16 ⌝ }
-{
-    match b {
-        b'0'..=b'9' => b - b'0',
-        b'A'..=b'F' => b - b'A' + 10,
-        _ => NO_DIGIT,
-    }
-}
-
-// The byte that two digits stand for.
-fn pair(high: u8, low: u8) -> u16
-    ensures { λ r. ⌜ r ≤ 256 ⌝ }
-{
-    let h = digit(high);
-    let l = digit(low);
-    if NO_DIGIT <= h {
-        return NO_BYTE;
-    }
-    if NO_DIGIT <= l {
-        return NO_BYTE;
-    }
-    h as u16 * 16 + l as u16
 }
 
 // Puts the bytes that digits stand for behind the first ones of a buffer, as far as there are digits and room.
@@ -160,27 +56,6 @@ fn read_digits(text: &[u8], from: usize, buffer: &mut [u8], start: usize) -> Fil
         end += 1;
     }
     Filled { at, length: end }
-}
-
-// A decimal number, as far as its digits go and fit.
-fn read_number(text: &[u8], from: usize) -> Number
-    requires { ⌜ from ≤ length (now text) ⌝ }
-    ensures { λ r. ⌜ (from ≤ r .at) × (r .at ≤ length (now (text .entry))) ⌝ }
-{
-    let mut at = from;
-    let mut value: usize = 0;
-    while at < text.len() {
-        let d = digit(text[at]);
-        if 10 <= d {
-            return Number { at, value };
-        }
-        if NUMBER_LIMIT < value {
-            return Number { at, value };
-        }
-        value = value * 10 + d as usize;
-        at += 1;
-    }
-    Number { at, value }
 }
 
 // Behind a +: what is added to the bytes of a token from one copy to the next.

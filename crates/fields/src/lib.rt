@@ -1,5 +1,4 @@
 // What the bodies of items hold: kinds, events, bounds and leaves at a place of terms, and refusal 3 at each of them.
-use grammar::byte_at;
 use grammar::u16_at;
 use grammar::u32_at;
 use model::Bound;
@@ -32,17 +31,19 @@ pub const MINUS: u8 = 2;
 
 pub const OPEN: u8 = 3;
 
-// The form of an event that is a kind; the other forms are stages.
+// The form of an event that is a kind.
 pub const KIND_FORM: u8 = 0;
 
 // The last norm type; the first is 1.
 pub const LAST_NORM_TYPE: u8 = 4;
 
+// What a form and a number name: an event, or none.
 pub enum EventForm {
     Is(Event),
     NotAnEvent,
 }
 
+// What seven bytes name: a bound, or none.
 pub enum BoundForm {
     Is(Bound),
     NotABound,
@@ -79,11 +80,11 @@ pub fn key_of(terms: &[u8], kinds: usize, kind: u8) -> u8
     if kinds <= k {
         return 0;
     }
-    byte_at(terms, 5 * k + 4)
+    terms[5 * k + 4]
 }
 
 // The event of a form and a number.
-pub fn event_of(form: u8, number: u8) -> EventForm
+fn event_of(form: u8, number: u8) -> EventForm
     ensures { λ r. ⌜ eventIn r ≡ eventOf form number ⌝ }
 {
     if form == KIND_FORM {
@@ -96,7 +97,7 @@ pub fn event_of(form: u8, number: u8) -> EventForm
 }
 
 // The bound at a place.
-pub fn bound_at(terms: &[u8], at: usize) -> BoundForm
+fn bound_at(terms: &[u8], at: usize) -> BoundForm
     requires { ⌜ at + 7 ≤ length (now terms) ⌝ }
     ensures { λ r. ⌜ boundIn r ≡ boundOf (now (terms .entry)) at ⌝ }
 {
@@ -122,7 +123,7 @@ pub fn bound_at(terms: &[u8], at: usize) -> BoundForm
 }
 
 // A leaf that neither occurs nor fails: what stands for one that cannot be decoded.
-pub fn no_leaf() -> Leaf
+fn no_leaf() -> Leaf
     ensures { λ r. ⌜ r ≡ neither ⌝ }
 {
     Leaf {
@@ -193,20 +194,20 @@ pub fn head_wrong(terms: &[u8], kinds: usize, at: usize) -> bool
 }
 
 // Refusal 3 at an event: no such form, or a kind that is not declared.
-pub fn event_wrong(kinds: usize, form: u8, number: u8) -> bool
+fn event_wrong(kinds: usize, form: u8, number: u8) -> bool
     ensures { λ r. ⌜ ((t : Terms) → kinds ≡ length (t .kinds) → r ≡ eventWrong t form number) ⌝ }
 {
-    if Stage::VIOLATED < form {
-        return true;
+    match event_of(form, number) {
+        EventForm::Is(event) => match event {
+            Event::Kind(kind) => kinds <= kind as usize,
+            Event::StageOf(_, _) => false,
+        },
+        EventForm::NotAnEvent => true,
     }
-    if form != KIND_FORM {
-        return false;
-    }
-    kinds <= number as usize
 }
 
 // Refusal 3 at the bound at a place, sign by sign.
-pub fn bound_wrong(terms: &[u8], kinds: usize, at: usize) -> bool
+fn bound_wrong(terms: &[u8], kinds: usize, at: usize) -> bool
     requires { ⌜ at + 7 ≤ length (now terms) ⌝ }
     ensures { λ r. ⌜ ((t : Terms) → kinds ≡ length (t .kinds) → r ≡ boundWrong t (now (terms .entry)) at) ⌝ }
 {

@@ -1,22 +1,20 @@
 -- The readers of the model at the places and numbers that the code has.
---     inside                                a byte that is not 0 stands inside the bytes
 --     expr-…, left-falls                    an expression: one lemma for each answer of the code, and the items that fall
 --     item-ends, schema-found               where an item ends, and a schema with the places of its clauses
---     SoFar, so-far, so-far-step, -none, -full   one thing after another, with any reader: the start, a step, and the two ends
 --     starts-step                           the starts of one schema more
 -- Assumes nothing.
 use Prim.Native.Nat.{ℕ, zero, suc, _+_, _-_, _*_, _≤_, _<_}
 use native.Mathlib.Omega.{arith}
 use mathlib.Core.Path.{_≡_, refl, ap, sym, _∙_}
 use mathlib.Core.Bool.{Bool, true, false}
-use mathlib.Core.List.{List, [], _∷_, _++_, append-assoc, append-nil}
-use mathlib.Core.Option.{Option, none, some, bind}
-use lib.Dec.{eqb, leb, ltb}
-use lib.ListN.{length, getD, take, drop, set, length-append, length-drop, length-set, List·getD-eq-default, List·getD-append}
+use mathlib.Core.List.{List, [], _∷_, _++_}
+use mathlib.Core.Option.{some, bind}
+use lib.Dec.{ltb}
+use lib.ListN.{length, getD, take, drop, set, length-append, length-drop, length-set, List·getD-append}
 use lib.Seq.{drop-drop, take-at, getD-at, getD-set-same, getD-set-other}
-use borrow.Author.Tests.{leb-true, leb-false, le-leb, ltb-true, ltb-false, eqb-true, eqb-false}
-use Rattle.model.specs.Terms.{Expr, leaf, and, or, except, always}
-use Rattle.model.specs.Bytes.{Reader, orElse, byteAt, many, item}
+use borrow.Author.Tests.{ltb-true, ltb-false}
+use Rattle.model.specs.Terms.{leaf, always}
+use Rattle.model.specs.Bytes.{byteAt, item}
 use Rattle.model.specs.Grammar.{SchemaItems, size, readBoth, readExpr, readClause, readSchema}
 use Rattle.grammar.specs.declared.Reading.{Reading}
 use Rattle.grammar.specs.declared.Reading.the-variants as reading
@@ -24,59 +22,14 @@ use Rattle.grammar.specs.declared.Expression.{Expression}
 use Rattle.grammar.specs.declared.Expression.the-variants as expression
 use Rattle.grammar.specs.Found.{Found, FoundExpr}
 use Rattle.grammar.specs.Places.{ClausesAt, noItems, Starts}
-use Rattle.model.proofs.ReaderLaws.{item-sound, many-none, many-some}
-use Rattle.model.proofs.GrammarLaws.{and-is, or-is, except-is}
-use Rattle.model.proofs.PlaceLaws.{drop-here, item-other}
-use Rattle.model.proofs.ExprLaws.{read-always}
+use Rattle.model.proofs.ReaderLaws.{item-sound}
+use Rattle.model.proofs.PlaceLaws.{drop-here, byte-inside, item-other}
+use Rattle.model.proofs.ExprLaws.{Joins, joins, read-always, read-none}
 
--- a byte that is not 0 stands inside the bytes
-pub inside : (s : List ℕ) (at : ℕ) → 0 < byteAt s at → at < length s
-unfolding byteAt
-inside s at h = go (leb (length s) at) refl
-  where
-    go : (b : Bool) → leb (length s) at ≡ b → at < length s
-    go true e = absurd (omega (arith, List·getD-eq-default s 0 (leb-true (length s) at e)))
-    go false e = leb-false (length s) at e
-
--- nothing is read where no item of an expression stands
-none-read : (n items : ℕ) (s : List ℕ) (at : ℕ) → item 3 16 (drop at s) ≡ none → (4 ≤ byteAt s at → byteAt s at ≤ 7 → ⊥) → readExpr n items (drop at s) ≡ none
-unfolding readExpr bind
-none-read zero items s at e out = refl
-none-read (suc n) zero s at e out = refl
-none-read (suc n) (suc items) s at e out =
-    simp (
-      e,
-      item-other 4 0 s at (λ b. out (omega arith) (omega arith)),
-      item-other 5 0 s at (λ b. out (omega arith) (omega arith)),
-      item-other 6 0 s at (λ b. out (omega arith) (omega arith)),
-      item-other 7 0 s at (λ b. out (omega arith) (omega arith)),
-    )
-
--- one reading alone
-or-none : {A : Type 0} (o : Option A) → orElse o none ≡ o
-or-none none = refl
-or-none (some a) = refl
-
--- a connective's byte: how it joins what is read behind it
-record Joining (n items b : ℕ) (u : List ℕ) : Type 0 where
-  join : Expr (List ℕ) → Expr (List ℕ) → Expr (List ℕ)
-  counts : (x y : Expr (List ℕ)) → size (join x y) ≡ suc (size x + size y)
-  reads : readExpr (suc n) (suc items) (b ∷ u) ≡ readBoth (readExpr n) items join u
-
--- each of the bytes 4, 5 and 6 is such a byte
-joining : (n items b : ℕ) (u : List ℕ) → 4 ≤ b → b ≤ 6 → Joining n items b u
-unfolding readExpr item bind
-joining n items b u low high = go (eqb b 4) (eqb b 5) refl refl
-  where
-    zero-fits : leb 0 (length u) ≡ true
-    zero-fits = le-leb 0 (length u) (omega arith)
-
-    go : (p q : Bool) → eqb b 4 ≡ p → eqb b 5 ≡ q → Joining n items b u
-    go true q e f = rw (eqb-true b 4 e) (record { join = and; counts = and-is .items; reads = rw zero-fits (or-none _) })
-    go false true e f = rw (eqb-true b 5 f) (record { join = or; counts = or-is .items; reads = rw zero-fits (or-none _) })
-    go false false e f =
-        let six : b ≡ 6 = omega (arith, eqb-false b 4 e, eqb-false b 5 f) in
-        rw six (record { join = except; counts = except-is .items; reads = rw zero-fits (or-none _) })
+-- what is read at a connective's byte
+join-reads : (n items : ℕ) (s : List ℕ) (at : ℕ) (low : 4 ≤ byteAt s at) (high : byteAt s at ≤ 6)
+    → readExpr (suc n) (suc items) (drop at s) ≡ readBoth (readExpr n) items (joins (byteAt s at) low high .join) (drop (at + 1) s)
+join-reads n items s at low high = rw (drop-here s at (byte-inside s at (omega arith))) (joins (byteAt s at) low high .is .reads n items (drop (at + 1) s))
 
 -- what is read as the second operand ends the whole
 joined : (n items : ℕ) (s : List ℕ) (at middle left : ℕ) → 4 ≤ byteAt s at → byteAt s at ≤ 6 → FoundExpr n items s (at + 1) (expression.To middle left)
@@ -84,18 +37,15 @@ joined : (n items : ℕ) (s : List ℕ) (at middle left : ℕ) → 4 ≤ byteAt 
 unfolding readBoth bind
 joined n items s at middle left low high a r b = go r b
   where
-    j : Joining n items (byteAt s at) (drop (at + 1) s)
-    j = joining n items (byteAt s at) (drop (at + 1) s) low high
-
-    here : drop at s ≡ byteAt s at ∷ drop (at + 1) s
-    here = drop-here s at (inside s at (omega arith))
+    j : Joins (byteAt s at)
+    j = joins (byteAt s at) low high
 
     count : items - size (a .0) ≡ left
     count = omega arith
 
     go : (r : Expression) → FoundExpr n left s middle r → FoundExpr (suc n) (suc items) s at r
-    go (expression.To end rest) b = (j .join (a .0) (b .0), rw (here, j .reads, a .1, count, b .1), omega (arith, j .counts (a .0) (b .0)), omega arith, b .4)
-    go expression.Nothing b = rw (here, j .reads, a .1, count, b)
+    go (expression.To end rest) b = (j .join (a .0) (b .0), rw (join-reads n items s at low high, a .1, count, b .1), omega (arith, j .is .is .items (a .0) (b .0)), omega arith, b .4)
+    go expression.Nothing b = rw (join-reads n items s at low high, a .1, count, b)
 
 -- what the reader of expressions promises, whatever depth the model's is allowed
 abbrev Reads : ℕ → List ℕ → ℕ → Expression → Type 0
@@ -114,11 +64,11 @@ module _ (items : ℕ) (s : List ℕ) (at : ℕ) where
 
   -- no kind byte of an expression
   pub expr-no-kind : (3 ≤ byteAt s at → byteAt s at ≤ 7 → ⊥) → Reads items s at expression.Nothing
-  expr-no-kind out n h = none-read n items s at (item-other 3 16 s at (λ e. out (omega arith) (omega arith))) (λ low high. out (omega arith) high)
+  expr-no-kind out n h = read-none n items s at (item-other 3 16 s at (λ e. out (omega arith) (omega arith))) (λ low high. out (omega arith) high)
 
   -- a leaf that is cut off
   pub expr-no-leaf : {r : Reading} → byteAt s at ≡ 3 → Found (item 3 16) s at r → r ≡ reading.Nothing → Reads items s at expression.Nothing
-  expr-no-leaf b found e n h = none-read n items s at (rw e at found) (λ low high. omega arith)
+  expr-no-leaf b found e n h = read-none n items s at (rw e at found) (λ low high. omega arith)
 
   -- a leaf
   pub expr-leaf : {r : Reading} {end : ℕ} → 1 ≤ items → Found (item 3 16) s at r → r ≡ reading.To end → Reads items s at (expression.To end (items - 1))
@@ -129,7 +79,7 @@ module _ (items : ℕ) (s : List ℕ) (at : ℕ) where
   pub expr-always : 1 ≤ items → byteAt s at ≡ 7 → Reads items s at (expression.To (at + 1) (items - 1))
   unfolding size
   expr-always p b n h =
-      let in-bytes = inside s at (omega arith) in
+      let in-bytes = byte-inside s at (omega arith) in
       (always, read-always n items s at (omega arith) p b in-bytes, omega arith, omega arith, omega arith)
 
   -- a connective without its first operand
@@ -137,7 +87,7 @@ module _ (items : ℕ) (s : List ℕ) (at : ℕ) where
       → Reads (items - 1) s (at + 1) first → first ≡ expression.Nothing → Reads items s at expression.Nothing
   unfolding readBoth bind
   expr-no-first p low high f e = one-taken expression.Nothing p (λ n h.
-      rw (drop-here s at (inside s at (omega arith)), joining n (items - 1) (byteAt s at) (drop (at + 1) s) low high .reads, rw e at (f n (omega arith))))
+      rw (join-reads n (items - 1) s at low high, rw e at (f n (omega arith))))
 
   -- a connective: what its second operand gives
   pub expr-both : {first : Expression} (r : Expression) {middle left : ℕ} → 1 ≤ items → 4 ≤ byteAt s at → byteAt s at ≤ 6
@@ -177,31 +127,6 @@ schema-found s at create detach consequent end h c r u =
         inside = u .3;
       },
     )
-
--- one thing after another
-module _ {A : Type 0} (reader : Reader A) (limit : ℕ) (s : List ℕ) where
-  -- what is done, joined with what is left, is the whole
-  abbrev pub SoFar : List A → List ℕ → Type 0
-  SoFar done t = many reader limit s ≡ (done ++ many reader (limit - length done) t .0, many reader (limit - length done) t .1)
-
-  -- nothing is done
-  pub so-far : SoFar [] s
-  so-far = let e : limit - 0 ≡ limit = omega arith in rw e refl
-
-  -- one thing more
-  pub so-far-step : (done : List A) (t : List ℕ) {x : A} {u : List ℕ} → length done < limit → reader t ≡ some (x, u) → SoFar done t → SoFar (done ++ (x ∷ [])) u
-  so-far-step done t {x} {u} h e f =
-      let more : limit - length done ≡ suc (limit - length (done ++ (x ∷ []))) = simp length-append (omega arith) in
-      rw (append-assoc) (rw (more, many-some reader _ t e) at f)
-
-  -- nothing more is read
-  pub so-far-none : (done : List A) (t : List ℕ) → reader t ≡ none → SoFar done t → many reader limit s ≡ (done, t)
-  so-far-none done t e f = rw (many-none reader _ t e, append-nil) at f
-
-  -- the limit is reached
-  pub so-far-full : (done : List A) (t : List ℕ) → limit ≤ length done → SoFar done t → many reader limit s ≡ (done, t)
-  unfolding many
-  so-far-full done t h f = let full : limit - length done ≡ 0 = omega arith in rw (full, append-nil) at f
 
 -- three stores, one place after another
 abbrev three : List ℕ → ℕ → ℕ → ℕ → ℕ → List ℕ

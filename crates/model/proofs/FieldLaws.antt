@@ -6,8 +6,8 @@ use native.Mathlib.Omega.{arith}
 use mathlib.Core.Path.{_≡_, refl, ap, sym, _∙_}
 use mathlib.Core.Bool.{Bool, true, false, cond, _||_, true≢false}
 use mathlib.Core.List.{List, [], _∷_, _++_, append-nil}
-use mathlib.Core.Option.{none, some, bind}
-use lib.Dec.{eqb, ltb}
+use mathlib.Core.Option.{Option, none, some, bind}
+use lib.Dec.{eqb, leb, ltb}
 use lib.ListN.{length}
 use lib.Seq.{getD-append-add, drop-append-add, take-at}
 use Rattle.model.specs.declared.Stage.the-variants.{Created, Detached, Expired, Discharged, Violated}
@@ -26,7 +26,7 @@ use Rattle.model.specs.Bytes.{bytesOf, byteAt, numberAt}
 use Rattle.model.specs.Fields.{stageEvent, eventOf, boundOf, leafOf, neither, notZero, offsetLimit, eventWrong, boundWrong, leafWrong}
 use Rattle.model.proofs.BoolLaws.{or-false}
 use Rattle.model.proofs.TimeLaws.{ifNever-never, onceKnown-never}
-use borrow.Author.Tests.{ltb-false}
+use borrow.Author.Tests.{ltb-false, lt-ltb, ne-eqb}
 use Rattle.model.proofs.NumberLaws.{bytes-length, bytes-number}
 
 -- an event's form byte
@@ -130,6 +130,30 @@ form-read (suc (suc (suc zero))) number h = (StageOf Expired number, refl)
 form-read (suc (suc (suc (suc zero)))) number h = (StageOf Discharged number, refl)
 form-read (suc (suc (suc (suc (suc zero))))) number h = (StageOf Violated number, refl)
 form-read (suc (suc (suc (suc (suc (suc form)))))) number h = absurd (omega arith)
+
+-- refusal 3 of what a form names: no event, or a kind that is not declared
+abbrev pub wrongAs : ℕ → Option Event → Bool
+wrongAs kinds none = true
+wrongAs kinds (some (Kind k)) = leb kinds k
+wrongAs kinds (some (StageOf s j)) = false
+
+-- refusal 3 of an event goes by what its form names
+pub event-wrong-as : (terms : Terms) (form number : ℕ) → eventWrong terms form number ≡ wrongAs (length (terms .kinds)) (eventOf form number)
+unfolding eventWrong eventOf stageEvent
+event-wrong-as terms zero number = refl
+event-wrong-as terms (suc zero) number = refl
+event-wrong-as terms (suc (suc zero)) number = refl
+event-wrong-as terms (suc (suc (suc zero))) number = refl
+event-wrong-as terms (suc (suc (suc (suc zero)))) number = refl
+event-wrong-as terms (suc (suc (suc (suc (suc zero))))) number = refl
+event-wrong-as terms (suc (suc (suc (suc (suc (suc form)))))) number =
+    simp (lt-ltb 5 high (omega arith), other 0 (omega arith), other 1 (omega arith), other 2 (omega arith), other 3 (omega arith), other 4 (omega arith), other 5 (omega arith))
+  where
+    high : ℕ
+    high = suc (suc (suc (suc (suc (suc form)))))
+
+    other : (k : ℕ) → k < 6 → eqb high k ≡ false
+    other k h = ne-eqb high k (λ e. omega arith)
 
 event-read : (terms : Terms) (form number : ℕ) → eventWrong terms form number ≡ false → (e : Event) × (eventOf form number ≡ some e)
 unfolding eventWrong

@@ -1,5 +1,5 @@
 -- Refusal 2 exactly: bytes pass it where they are the writing of 1 to 32 kinds and 1 to 16 schemas, whatever their fields hold.
---     size-positive               an expression has at least one item
+--     size-positive, expr-long    an expression has at least one item, and a byte
 --     Connective                  what the items 04 to 06 share
 --     expr-read, expr-whole         an expression is read exactly where its writing stands and its items are within the count
 --     schema-read, schema-whole     the same of a schema
@@ -36,8 +36,17 @@ abbrev pub E : Type 0
 E = Expr (List ℕ)
 
 -- a leaf's body has 16 bytes
-abbrev Sixteen : List ℕ → Type 0
+abbrev pub Sixteen : List ℕ → Type 0
 Sixteen body = length body ≡ 16
+
+-- an expression has a byte
+pub expr-long : (x : E) → 1 ≤ length (exprBytes x)
+unfolding exprBytes
+expr-long (leaf body) = omega arith
+expr-long (and a b) = omega arith
+expr-long (or a b) = omega arith
+expr-long (except a b) = omega arith
+expr-long always = omega arith
 
 -- x stands at the front of s, before t, with at most so many items
 abbrev Stands : ℕ → List ℕ → E → List ℕ → Type 0

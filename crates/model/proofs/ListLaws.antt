@@ -1,7 +1,7 @@
--- A property of each element of a list goes through the ways in which lists are made; and lists one after another. Assumes nothing.
+-- A property of each element of a list, and a test of some element, go through the ways in which lists are made; and lists one after another. Assumes nothing.
 use Prim.Native.Nat.{ℕ, zero, suc}
 use mathlib.Core.Path.{_≡_, refl, ap, sym}
-use mathlib.Core.Bool.{Bool, true, false}
+use mathlib.Core.Bool.{Bool, true, false, _||_, or-false, or-assoc}
 use mathlib.Core.List.{List, [], _∷_, _++_, map, flatMap, flatten, append-nil, append-assoc}
 use lib.ListN.{take, drop}
 use Rattle.model.specs.Lists.{anyOf, All}
@@ -59,6 +59,12 @@ unfolding flatMap flatten
 flatten-map f [] = refl
 flatten-map f (x ∷ l) = ap (λ t. f x ++ t) (flatten-map f l)
 
+-- What elements give, of two lists one behind the other.
+pub flatMap-append : {A B : Type 0} (f : A → List B) (a b : List A) → flatMap f (a ++ b) ≡ flatMap f a ++ flatMap f b
+unfolding flatMap
+flatMap-append f [] b = refl
+flatMap-append f (x ∷ a) b = rw (flatMap-append f a b) (sym (append-assoc (f x) (flatMap f a) (flatMap f b)))
+
 -- Lists one after another, each as it is.
 pub flatten-each : {A : Type 0} (l : List (List A)) → flatMap (λ c. c) l ≡ flatten l
 unfolding flatMap flatten
@@ -71,12 +77,35 @@ unfolding flatten
 flatten-snoc [] c = append-nil c
 flatten-snoc (x ∷ l) c = rw (flatten-snoc l c) (sym (append-assoc x (flatten l) c))
 
--- a test that the first element passes
+-- A test that the first element passes.
 pub any-here : {A : Type 0} (p : A → Bool) (x : A) (l : List A) → p x ≡ true → anyOf p (x ∷ l) ≡ true
 unfolding anyOf
 any-here p x l e = rw e
 
--- one that it fails is left to the elements behind
+-- One that it fails is left to the elements behind.
 pub any-behind : {A : Type 0} (p : A → Bool) (x : A) (l : List A) → p x ≡ false → anyOf p (x ∷ l) ≡ anyOf p l
 unfolding anyOf
 any-behind p x l e = rw e
+
+-- A test of one element.
+pub any-one : {A : Type 0} (p : A → Bool) (x : A) → anyOf p (x ∷ []) ≡ p x
+unfolding anyOf
+any-one p x = or-false (p x)
+
+-- A test of two lists one behind the other.
+pub any-append : {A : Type 0} (p : A → Bool) (a b : List A) → anyOf p (a ++ b) ≡ (anyOf p a || anyOf p b)
+unfolding anyOf
+any-append p [] b = refl
+any-append p (x ∷ a) b = rw (any-append p a b) (sym (or-assoc (p x) (anyOf p a) (anyOf p b)))
+
+-- A test of elements in another form.
+pub any-map : {A B : Type 0} (p : B → Bool) (f : A → B) (l : List A) → anyOf p (map f l) ≡ anyOf (λ x. p (f x)) l
+unfolding anyOf
+any-map p f [] = refl
+any-map p f (x ∷ l) = ap (λ (b : Bool). p (f x) || b) (any-map p f l)
+
+-- A test that everything fails.
+pub any-none : {A : Type 0} (p : A → Bool) (l : List A) → ((x : A) → p x ≡ false) → anyOf p l ≡ false
+unfolding anyOf
+any-none p [] h = refl
+any-none p (x ∷ l) h = rw (h x) (any-none p l h)

@@ -6,12 +6,14 @@
 --     many-bytes                      what was read and what is left over, written one after another, are the bytes
 --     many-all, many-count            each thing read has what the reader promises; at most n are read
 --     many-whole                      things written one after another are read back
+--     many-fuel                       how often is tried does not count, from as many times on as there are bytes
+--     SoFar, so-far, so-far-step, -none, -full   one thing after another as a loop reads them: the start, a step, and the two ends
 -- Assumes nothing.
-use Prim.Native.Nat.{ℕ, zero, suc, _≤_}
+use Prim.Native.Nat.{ℕ, zero, suc, _-_, _≤_, _<_}
 use native.Mathlib.Omega.{arith}
-use mathlib.Core.Path.{_≡_, refl, ap}
+use mathlib.Core.Path.{_≡_, refl, ap, sym, _∙_}
 use mathlib.Core.Bool.{Bool, true, false, cond, _&&_}
-use mathlib.Core.List.{List, [], _∷_, _++_, flatMap, append-assoc}
+use mathlib.Core.List.{List, [], _∷_, _++_, flatMap, append-assoc, append-nil}
 use mathlib.Core.Option.{Option, none, some, Option·some-injective, bind}
 use lib.Dec.{leb, eqb}
 use lib.ListN.{length, take, drop, length-append, take-append-drop}
@@ -105,3 +107,51 @@ module _ {A : Type 0} (reader : Reader A) where
   many-whole write P h (x ∷ xs) zero t good l e = absurd (omega arith)
   many-whole write P h (x ∷ xs) (suc n) t good l e =
       rw (append-assoc, many-some n _ (h x (flatMap write xs ++ t) (good .0)), many-whole write P h xs n t (good .1) (omega arith) e)
+
+-- where each thing read takes a byte
+module _ {A : Type 0} (reader : Reader A) (shorter : (s : List ℕ) (x : A) (t : List ℕ) → reader s ≡ some (x, t) → length t < length s) where
+  -- nothing is read of no bytes
+  many-empty : (n : ℕ) (s : List ℕ) → length s ≤ 0 → many reader n s ≡ ([], s)
+  many-empty n s h = many-none reader n s (go (reader s) refl)
+    where
+      go : (o : Option (A × List ℕ)) → reader s ≡ o → o ≡ none
+      go none e = refl
+      go (some a) e = absurd (omega (arith, shorter s (a .0) (a .1) e))
+
+  -- from as many times on as there are bytes, how often is tried does not count
+  pub many-fuel : (n m : ℕ) (s : List ℕ) → length s ≤ n → length s ≤ m → many reader n s ≡ many reader m s
+  many-fuel zero m s h k = many-empty zero s h ∙ sym (many-empty m s h)
+  many-fuel (suc n) zero s h k = many-empty (suc n) s k ∙ sym (many-empty zero s k)
+  many-fuel (suc n) (suc m) s h k = go (reader s) refl (many-fuel n m)
+    where
+      go : (o : Option (A × List ℕ)) → reader s ≡ o → ((t : List ℕ) → length t ≤ n → length t ≤ m → many reader n t ≡ many reader m t)
+          → many reader (suc n) s ≡ many reader (suc m) s
+      go none e ih = many-none reader (suc n) s e ∙ sym (many-none reader (suc m) s e)
+      go (some a) e ih =
+          let less = shorter s (a .0) (a .1) e in
+          rw (many-some reader n s e, many-some reader m s e, ih (a .1) (omega arith) (omega arith))
+
+-- one thing after another
+module _ {A : Type 0} (reader : Reader A) (limit : ℕ) (s : List ℕ) where
+  -- what is done, joined with what is left, is the whole
+  abbrev pub SoFar : List A → List ℕ → Type 0
+  SoFar done t = many reader limit s ≡ (done ++ many reader (limit - length done) t .0, many reader (limit - length done) t .1)
+
+  -- nothing is done
+  pub so-far : SoFar [] s
+  so-far = let e : limit - 0 ≡ limit = omega arith in rw e refl
+
+  -- one thing more
+  pub so-far-step : (done : List A) (t : List ℕ) {x : A} {u : List ℕ} → length done < limit → reader t ≡ some (x, u) → SoFar done t → SoFar (done ++ (x ∷ [])) u
+  so-far-step done t {x} {u} h e f =
+      let more : limit - length done ≡ suc (limit - length (done ++ (x ∷ []))) = simp length-append (omega arith) in
+      rw (append-assoc) (rw (more, many-some reader _ t e) at f)
+
+  -- nothing more is read
+  pub so-far-none : (done : List A) (t : List ℕ) → reader t ≡ none → SoFar done t → many reader limit s ≡ (done, t)
+  so-far-none done t e f = rw (many-none reader _ t e, append-nil) at f
+
+  -- the limit is reached
+  pub so-far-full : (done : List A) (t : List ℕ) → limit ≤ length done → SoFar done t → many reader limit s ≡ (done, t)
+  unfolding many
+  so-far-full done t h f = let full : limit - length done ≡ 0 = omega arith in rw (full, append-nil) at f

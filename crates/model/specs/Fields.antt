@@ -59,11 +59,11 @@ leafOf body =
     bind (boundOf body 9) λ u.
     some (record { event = e; lower = l; upper = u })
 
--- what a leaf that refusal 3 turns away stands for: an open lower bound lets nothing in, an open upper one is never reached
+-- what a leaf stands for whose form or sign names nothing (refusal 3 turns it away): an open lower bound lets nothing in, an open upper one is never reached
 unfoldable pub neither : Leaf
 neither = record { event = Kind 0; lower = Open; upper = Open }
 
--- the leaf that a body stands for (item 03)
+-- the leaf that a body stands for (item 03); where a form or a sign of it names nothing, neither
 unfoldable pub leafFrom : List ℕ → Leaf
 leafFrom body = elim (leafOf body) [ none ↦ neither | some x ↦ x ]
 
@@ -75,7 +75,7 @@ exprFrom (or a b) = or (exprFrom a) (exprFrom b)
 exprFrom (except a b) = except (exprFrom a) (exprFrom b)
 exprFrom always = always
 
--- the expression of at most so many items at a place of the terms; where none stands, one that neither occurs nor fails (items 03 to 07)
+-- the expression of at most so many items at a place of the terms; where none is read, the leaf that neither occurs nor fails (items 03 to 07)
 unfoldable pub exprAt : List ℕ → ℕ → ℕ → Expr Leaf
 exprAt s at items = elim (readExpr items items (drop at s)) [ none ↦ leaf neither | some found ↦ exprFrom (found .0) ]
 
@@ -148,11 +148,13 @@ schemaWrong terms x =
     || anyOf (leafWrong terms) (leaves (x .detach))
     || anyOf (leafWrong terms) (leaves (x .consequent))
 
+-- refusal 3 at some item 01, each with its number
+unfoldable pub kindsWrong : TermsFile → Bool
+kindsWrong file = anyOf (λ i. kindWrong i (getD (file .kinds) i [])) (numbersFrom 0 (length (file .kinds)))
+
 -- refusal 3 anywhere in the file (table, 3)
 unfoldable pub fieldWrong : TermsFile → Bool
-fieldWrong file =
-    anyOf (λ i. kindWrong i (getD (file .kinds) i [])) (numbersFrom 0 (length (file .kinds)))
-    || anyOf (schemaWrong (termsFrom file)) (file .schemas)
+fieldWrong file = kindsWrong file || anyOf (schemaWrong (termsFrom file)) (file .schemas)
 
 -- whether an event cites a stage that does not rank below k (Citation)
 unfoldable pub citesFrom : ℕ → Event → Bool
@@ -168,20 +170,24 @@ sharesNone terms subject e =
 unfoldable pub anyEvent : (Event → Bool) → Expr Leaf → Bool
 anyEvent p x = anyOf (λ l. anyOf p (leafEvents l)) (leaves x)
 
--- refusal 4: some clause cites a stage that does not rank below it (table, 4)
-unfoldable pub citationWrong : Terms → Bool
-citationWrong terms =
-    anyOf (λ n.
-    anyEvent (citesFrom (3 * n)) (schemaAt terms n .create)
-    || anyEvent (citesFrom (3 * n + 1)) (schemaAt terms n .detach)
-    || anyEvent (citesFrom (3 * n + 2)) (schemaAt terms n .consequent))
-    (numbersFrom 0 (length (terms .schemas)))
+-- refusal 4 at the schema with a number: some clause cites a stage that does not rank below it
+unfoldable pub citesTooHigh : Terms → ℕ → Bool
+citesTooHigh terms n =
+    let x = schemaAt terms n in
+    anyEvent (citesFrom (3 * n)) (x .create)
+    || anyEvent (citesFrom (3 * n + 1)) (x .detach)
+    || anyEvent (citesFrom (3 * n + 2)) (x .consequent)
 
--- refusal 5: some event has nothing to correlate by (table, 5)
+-- refusal 4 (table, 4)
+unfoldable pub citationWrong : Terms → Bool
+citationWrong terms = anyOf (citesTooHigh terms) (numbersFrom 0 (length (terms .schemas)))
+
+-- refusal 5 at a schema: some event has nothing to correlate by
+unfoldable pub unsharedIn : Terms → Schema → Bool
+unsharedIn terms x =
+    let none-shared = sharesNone terms (x .subject) in
+    anyEvent none-shared (x .create) || anyEvent none-shared (x .detach) || anyEvent none-shared (x .consequent)
+
+-- refusal 5 (table, 5)
 unfoldable pub unsharedEvent : Terms → Bool
-unsharedEvent terms =
-    anyOf (λ (x : Schema).
-    anyEvent (sharesNone terms (x .subject)) (x .create)
-    || anyEvent (sharesNone terms (x .subject)) (x .detach)
-    || anyEvent (sharesNone terms (x .subject)) (x .consequent))
-    (terms .schemas)
+unsharedEvent terms = anyOf (unsharedIn terms) (terms .schemas)

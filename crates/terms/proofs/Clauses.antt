@@ -19,22 +19,18 @@ use Rattle.model.specs.Terms.{leaf, and, or, except, always, leaves}
 use Rattle.model.specs.Bytes.{byteAt}
 use Rattle.model.specs.Grammar.{exprLimit, readClause, exprBytes}
 use Rattle.model.specs.Calls.{termsOf}
-use Rattle.model.proofs.ListLaws.{all-split}
-use Rattle.model.proofs.GrammarLaws.{E, expr-read}
+use Rattle.model.proofs.ListLaws.{all-split, flatMap-append}
+use Rattle.model.proofs.GrammarLaws.{E, Sixteen, expr-long, expr-read}
 use Rattle.model.proofs.PlaceLaws.{drop-here}
 use Rattle.terms.specs.declared.Question.{Question}
 use Rattle.terms.specs.Questions.{askedOfLeaf, itemLength, operandsOf, itemHas, clauseHas, ClauseAt}
-
--- a leaf's body has 16 bytes
-abbrev Sixteen : List ℕ → Type 0
-Sixteen body = length body ≡ 16
 
 -- the body of an item of a kind, if it is a leaf
 abbrev ownLeaf : ℕ → List ℕ → List (List ℕ)
 ownLeaf kind own = cond (eqb kind 3) (own ∷ []) []
 
 -- an expression as one item
-pub record Item (x : E) : Type 0 where
+record Item (x : E) : Type 0 where
   -- its kind byte
   pub kind : ℕ
   -- its body
@@ -68,22 +64,7 @@ operands-few kind = go (leb 4 kind && ltb kind 7)
     go true = omega arith
     go false = omega arith
 
--- what elements give, of two lists one behind the other
-flatMap-append : {A B : Type 0} (f : A → List B) (a b : List A) → flatMap f (a ++ b) ≡ flatMap f a ++ flatMap f b
-unfolding flatMap
-flatMap-append f [] b = refl
-flatMap-append f (x ∷ a) b = rw (flatMap-append f a b) (sym (append-assoc (f x) (flatMap f a) (flatMap f b)))
-
--- each expression has a byte
-expr-long : (x : E) → 1 ≤ length (exprBytes x)
-unfolding exprBytes
-expr-long (leaf body) = omega arith
-expr-long (and a b) = omega arith
-expr-long (or a b) = omega arith
-expr-long (except a b) = omega arith
-expr-long always = omega arith
-
--- so expressions are no more than their bytes
+-- expressions are no more than their bytes
 exprs-long : (xs : List E) → length xs ≤ length (flatMap exprBytes xs)
 unfolding flatMap
 exprs-long [] = omega arith

@@ -9,18 +9,18 @@ use Prim.Native.Nat.{ℕ, suc, _+_, _*_, _≤_, _<_}
 use native.Mathlib.Nat.{add-zero, zero-add}
 use native.Mathlib.Omega.{arith}
 use mathlib.Core.Path.{_≡_, refl, ap, sym, _∙_}
-use mathlib.Core.Bool.{Bool, true, false, not, _||_}
+use mathlib.Core.Bool.{Bool, _||_, or-assoc}
 use mathlib.Core.List.{List, [], _∷_}
 use lib.Dec.{eqb, ltb, eqb·suc-zero}
-use lib.ListN.{length, getD, take, drop, length-map, drop-of-length-le}
-use lib.Seq.{drop-cons, length-take-le, getD-take}
-use borrow.Author.Tests.{ltb-true, ltb-false}
+use lib.ListN.{length, getD, take, drop, length-map}
+use lib.Seq.{length-take-le, getD-take}
 use Rattle.model.specs.Lists.{numbersFrom, isEmpty, anyOf}
 use Rattle.model.specs.Terms.{Expr, schemaAt}
-use Rattle.model.specs.Grammar.{SchemaItems, schemasLimit, fileOf, breaksGrammar}
-use Rattle.model.specs.Fields.{exprFrom, schemaFrom, termsFrom, kindWrong, headWrong, schemaWrong, fieldWrong, anyEvent, citationWrong, unsharedEvent}
+use Rattle.model.specs.Grammar.{schemasLimit, fileOf, breaksGrammar}
+use Rattle.model.specs.Fields.{exprFrom, schemaFrom, termsFrom, headWrong, schemaWrong, kindsWrong, fieldWrong, anyEvent, citesTooHigh, citationWrong, unsharedIn, unsharedEvent}
 use Rattle.model.specs.Calls.{termsOf}
 use Rattle.model.proofs.GrammarLaws.{file-read}
+use Rattle.model.proofs.PlaceLaws.{left-over}
 use Rattle.model.proofs.ExprLaws.{any-event}
 use Rattle.grammar.specs.declared.Layout.{Layout}
 use Rattle.grammar.specs.Places.{noItems, LaidOut}
@@ -39,13 +39,12 @@ any-from p d f k [] h = refl
 any-from p d f k (x ∷ l) h = rw (any-from p d f (suc k) l (λ i. ap f (omega arith) ∙ h (suc i)), ap f (sym (add-zero k)) ∙ h 0)
 
 -- by their numbers
-pub any-numbers : {A : Type 0} (p : A → Bool) (d : A) (l : List A) → anyOf p l ≡ anyOf (λ n. p (getD l n d)) (numbersFrom 0 (length l))
+any-numbers : {A : Type 0} (p : A → Bool) (d : A) (l : List A) → anyOf p l ≡ anyOf (λ n. p (getD l n d)) (numbersFrom 0 (length l))
 any-numbers p d l = sym (any-from p d (λ n. p (getD l n d)) 0 l (λ i. ap (λ (n : ℕ). p (getD l n d)) (zero-add i)))
 
 module _ (s : List ℕ) where
   -- refusal 3
-  pub field-faults : fieldWrong (fileOf s)
-      ≡ (anyOf (λ i. kindWrong i (getD (fileOf s .kinds) i [])) (numbersFrom 0 (length (fileOf s .kinds))) || anyOf (schemaHas s Field) (numbersFrom 0 (length (fileOf s .schemas))))
+  pub field-faults : fieldWrong (fileOf s) ≡ (kindsWrong (fileOf s) || anyOf (schemaHas s Field) (numbersFrom 0 (length (fileOf s .schemas))))
   unfolding fieldWrong schemaHas termsOf
   field-faults = rw (any-numbers (schemaWrong (termsFrom (fileOf s))) noItems (fileOf s .schemas))
 
@@ -73,26 +72,18 @@ module _ (s : List ℕ) where
     -- refusal 3 at a schema: at its head, or at a leaf
     pub field-here : schemaHas s Field n ≡ (headWrong (termsOf s) (getD (fileOf s .schemas) n noItems .head) || clausesHave s OutOfRange OutOfRange OutOfRange n)
     unfolding schemaHas schemaWrong clausesHave clauseHas askedOfLeaf
-    field-here = go (headWrong (termsOf s) (getD (fileOf s .schemas) n noItems .head))
-      where
-        x : SchemaItems
-        x = getD (fileOf s .schemas) n noItems
-
-        go : (b : Bool) → (b || clauseHas s OutOfRange (x .create) || clauseHas s OutOfRange (x .detach) || clauseHas s OutOfRange (x .consequent))
-            ≡ (b || (clauseHas s OutOfRange (x .create) || clauseHas s OutOfRange (x .detach) || clauseHas s OutOfRange (x .consequent)))
-        go true = refl
-        go false = refl
+    field-here = simp or-assoc
 
     module _ (h : n < length (fileOf s .schemas)) where
       -- refusal 4
       pub citation-here : schemaHas s Citation n
           ≡ clausesHave s (SomeEvent (CitesFrom (3 * n))) (SomeEvent (CitesFrom (3 * n + 1))) (SomeEvent (CitesFrom (3 * n + 2))) n
-      unfolding schemaHas schemaFrom asked clausesHave
+      unfolding schemaHas citesTooHigh schemaFrom asked clausesHave
       citation-here = rw (schema-here s n h) (simp clause-events)
 
       -- refusal 5
       pub unshared-here : schemaHas s Unshared n ≡ (let q = SomeEvent (SharesNone (schemaAt (termsOf s) n .subject)) in clausesHave s q q q n)
-      unfolding schemaHas schemaFrom asked clausesHave
+      unfolding schemaHas unsharedIn schemaFrom asked clausesHave
       unshared-here = rw (schema-here s n h) (simp clause-events)
 
 -- nothing stands in a list where it has no elements
@@ -100,15 +91,6 @@ empty-count : {A : Type 0} (l : List A) → isEmpty l ≡ eqb (length l) 0
 unfolding isEmpty
 empty-count [] = refl
 empty-count (x ∷ l) = sym (eqb·suc-zero (length l))
-
--- bytes are left from a place on where it is before the end
-left-over : (s : List ℕ) (rest : ℕ) → not (isEmpty (drop rest s)) ≡ ltb rest (length s)
-unfolding isEmpty
-left-over s rest = go (ltb rest (length s)) refl
-  where
-    go : (b : Bool) → ltb rest (length s) ≡ b → not (isEmpty (drop rest s)) ≡ b
-    go true e = rw (drop-cons s rest 0 (ltb-true rest (length s) e))
-    go false e = rw (drop-of-length-le s (ltb-false rest (length s) e))
 
 -- refusal 2
 pub grammar-here : (s : List ℕ) (kinds schemas rest : ℕ) → kinds ≡ length (fileOf s .kinds) → schemas ≡ length (fileOf s .schemas)

@@ -1,33 +1,26 @@
--- One step of each check of terms: schemas at their places, and tests of masks and lists as the code makes them.
+-- One step of each check of terms: schemas at their places, and tests of lists as the code makes them.
 --     schema-here                   a schema that is there stands for its items
 --     subject-here, subject-past    its subject kind, and the one past the last schema
---     unshared-and                  two masks share nothing where their and is 0
---     any-one                       a test of one element
 --     leaf-asked                    a question about a leaf's events, one after another
 --     Left, left-…                  a test of the numbers below n, one after another
 -- Assumes nothing.
-use Prim.Native.Nat.{ℕ, zero, suc, _+_, _-_, _*_, _^_, _≤_, _<_}
+use Prim.Native.Nat.{ℕ, zero, suc, _+_, _-_, _*_, _≤_, _<_}
 use native.Mathlib.Nat.{sub-zero}
 use native.Mathlib.Numerals.{add-one}
 use native.Mathlib.Omega.{arith}
 use mathlib.Core.Path.{_≡_, refl, ap, sym, _∙_}
-use mathlib.Core.Bool.{Bool, true, false, not, _||_, or-false, or-assoc}
-use mathlib.Core.List.{List, [], _∷_, _++_, map}
-use lib.Dec.{eqb}
-use lib.Bits.{bitAnd}
+use mathlib.Core.Bool.{Bool, true, false, not, _||_}
+use mathlib.Core.List.{List, [], _∷_, map}
 use lib.ListN.{length, getD, length-map, List·getD-eq-default}
-use borrow.Author.Tests.{eqb-true, eqb-false}
 use Rattle.model.specs.Lists.{numbersFrom, anyOf}
 use Rattle.model.specs.declared.Leaf.{Leaf}
 use Rattle.model.specs.Terms.{Terms, Schema, schemaAt, boundEvents, leafEvents}
-use Rattle.model.specs.Log.{attributes, bothCarry}
 use Rattle.model.specs.Bytes.{byteAt}
 use Rattle.model.specs.Grammar.{fileOf}
 use Rattle.model.specs.Fields.{leafFrom, schemaFrom, termsFrom}
 use Rattle.model.specs.Calls.{termsOf}
-use Rattle.model.proofs.MaskLaws.{shares-and}
 use Rattle.model.proofs.PlaceLaws.{byte-within}
-use Rattle.model.proofs.ListLaws.{any-here, any-behind}
+use Rattle.model.proofs.ListLaws.{any-here, any-behind, any-append}
 use Rattle.grammar.specs.Places.{noItems, Starts}
 use Rattle.terms.specs.declared.EventQuestion.{EventQuestion}
 use Rattle.terms.specs.declared.Question.the-variants.{SomeEvent}
@@ -57,27 +50,6 @@ subject-here s starts n laid h =
 pub subject-past : (s : List ℕ) (n : ℕ) → length (fileOf s .schemas) ≤ n → schemaAt (termsOf s) n .subject ≡ 0
 unfolding schemaAt termsOf termsFrom
 subject-past s n h = ap (λ (x : Schema). x .subject) (List·getD-eq-default (map schemaFrom (fileOf s .schemas)) _ (omega (arith, length-map (fileOf s .schemas) schemaFrom)))
-
--- two masks share nothing where their and is 0
-pub unshared-and : (x y : ℕ) → x < 2 ^ 16 → eqb (bitAnd x y) 0 ≡ not (anyOf (bothCarry x y) (numbersFrom 0 attributes))
-unfolding attributes
-unshared-and x y h = go (eqb (bitAnd x y) 0) (anyOf (bothCarry x y) (numbersFrom 0 16)) refl refl
-  where
-    go : (b t : Bool) → eqb (bitAnd x y) 0 ≡ b → anyOf (bothCarry x y) (numbersFrom 0 16) ≡ t → b ≡ not t
-    go true t e f = rw (sym f ∙ shares-and 16 x y h .1 (eqb-true (bitAnd x y) 0 e))
-    go false true e f = refl
-    go false false e f = absurd (eqb-false (bitAnd x y) 0 e (shares-and 16 x y h .0 f))
-
--- a test of one element
-pub any-one : {A : Type 0} (p : A → Bool) (x : A) → anyOf p (x ∷ []) ≡ p x
-unfolding anyOf
-any-one p x = or-false (p x)
-
--- a test of two lists one behind the other
-any-append : {A : Type 0} (p : A → Bool) (a b : List A) → anyOf p (a ++ b) ≡ (anyOf p a || anyOf p b)
-unfolding anyOf
-any-append p [] b = refl
-any-append p (x ∷ a) b = rw (any-append p a b) (sym (or-assoc (p x) (anyOf p a) (anyOf p b)))
 
 -- a question about a leaf's events: its own, its lower bound's, its upper bound's
 pub leaf-asked : (terms : Terms) (q : EventQuestion) (x : Leaf) (body : List ℕ) → x ≡ leafFrom body → askedOfLeaf terms (SomeEvent q) body

@@ -11,7 +11,7 @@ use Rattle.model.specs.Lists.{anyOf}
 use Rattle.model.specs.Terms.{Terms, Expr, schemaAt, leaves, leafEvents}
 use Rattle.model.specs.Bytes.{byteAt}
 use Rattle.model.specs.Grammar.{fileOf, readClause}
-use Rattle.model.specs.Fields.{leafFrom, leafWrong, schemaWrong, citesFrom, sharesNone, anyEvent}
+use Rattle.model.specs.Fields.{leafFrom, leafWrong, schemaWrong, citesFrom, sharesNone, citesTooHigh, unsharedIn}
 use Rattle.model.specs.Calls.{termsOf}
 use Rattle.grammar.specs.Places.{noItems, Starts}
 use Rattle.terms.specs.declared.EventQuestion.{EventQuestion}
@@ -60,15 +60,8 @@ ClauseAt s at x = (t : List ℕ) × (readClause (drop at s) ≡ some (x, t))
 -- the fault of a refusal at the schema with a number (table, 3 to 5)
 unfoldable pub schemaHas : List ℕ → Fault → ℕ → Bool
 schemaHas s Field n = schemaWrong (termsOf s) (getD (fileOf s .schemas) n noItems)
-schemaHas s Citation n =
-    anyEvent (citesFrom (3 * n)) (schemaAt (termsOf s) n .create)
-    || anyEvent (citesFrom (3 * n + 1)) (schemaAt (termsOf s) n .detach)
-    || anyEvent (citesFrom (3 * n + 2)) (schemaAt (termsOf s) n .consequent)
-schemaHas s Unshared n =
-    let x = schemaAt (termsOf s) n in
-    anyEvent (sharesNone (termsOf s) (x .subject)) (x .create)
-    || anyEvent (sharesNone (termsOf s) (x .subject)) (x .detach)
-    || anyEvent (sharesNone (termsOf s) (x .subject)) (x .consequent)
+schemaHas s Citation n = citesTooHigh (termsOf s) n
+schemaHas s Unshared n = unsharedIn (termsOf s) (schemaAt (termsOf s) n)
 
 -- what is known of the places of terms: how many kinds, and where the clause of each rank starts
 abbrev pub Placed : List ℕ → ℕ → List ℕ → Type 0

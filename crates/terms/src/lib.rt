@@ -16,14 +16,14 @@ use model::Event;
 use model::Refusal;
 use model::Stage;
 ghost use mathlib.Core.Path.{_≡_};
-ghost use mathlib.Core.List.{List, []};
+ghost use mathlib.Core.List.{List};
 ghost use Prim.Native.Nat.{ℕ, _+_, _*_, _<_, _≤_};
-ghost use lib.ListN.{length, getD, take, drop};
+ghost use lib.ListN.{length, take, drop};
 ghost use Rattle.model.specs.Lists.{numbersFrom, anyOf};
 ghost use Rattle.model.specs.Terms.{Expr, schemaAt, kindOf, rank, boundEvents};
 ghost use Rattle.model.specs.Bytes.{byteAt};
 ghost use Rattle.model.specs.Grammar.{fileOf, breaksGrammar};
-ghost use Rattle.model.specs.Fields.{kindWrong, fieldWrong, citesFrom, sharesNone};
+ghost use Rattle.model.specs.Fields.{kindsWrong, fieldWrong, citesFrom, sharesNone};
 ghost use Rattle.model.specs.Answers.{checkedAnswer};
 ghost use Rattle.model.specs.Calls.{termsOf, checkTerms};
 ghost use Rattle.grammar.specs.Places.{LaidOut};
@@ -322,7 +322,7 @@ fn some_schema_has(terms: &[u8], kinds: usize, starts: &[usize], fault: Fault) -
 // Refusal 3 at some item 01.
 fn some_kind_wrong(terms: &[u8], kinds: usize) -> bool
     requires { ⌜ kinds ≡ length (fileOf (now terms) .kinds) ⌝ }
-    ensures { λ r. ⌜ r ≡ anyOf (λ i. kindWrong i (getD (fileOf (now (terms .entry)) .kinds) i [])) (numbersFrom 0 (length (fileOf (now (terms .entry)) .kinds))) ⌝ }
+    ensures { λ r. ⌜ r ≡ kindsWrong (fileOf (now (terms .entry))) ⌝ }
 {
     let mut i: usize = 0;
     while i < kinds {

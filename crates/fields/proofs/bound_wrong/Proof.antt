@@ -3,7 +3,7 @@ use borrow.Author.Needs.{needs}
 use borrow.Author.Tests.{eq-eqb, ne-eqb}
 use Rattle.model.specs.Bytes.{byteAt}
 use Rattle.model.specs.Fields.{notZero, offsetLimit, boundWrong}
-use Rattle.fields.proofs.Steps.{event-bound-wrong, no-bound-wrong}
+use Rattle.model.proofs.PlaceLaws.{event-bound-wrong, no-bound-wrong}
 use Rattle.fields.proofs.bound_wrong.Statement.{statement}
 use Rattle.fields.proofs.bound_wrong.Tie as tie
 

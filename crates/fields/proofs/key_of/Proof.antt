@@ -1,19 +1,18 @@
 -- `key_of` meets its contract: the key at its place, or none past the last kind. Assumes nothing.
 use native.Mathlib.Omega.{arith}
-use mathlib.Core.Path.{sym, _∙_}
+use mathlib.Core.Path.{sym}
 use borrow.Author.Needs.{needs}
-use Rattle.model.specs.Calls.{termsOf}
-use Rattle.model.proofs.KindLaws.{key-here, mask-past}
+use Rattle.model.specs.Bytes.{byteAt}
+use Rattle.model.proofs.KindLaws.{kind-here, key-here, mask-past}
 use Rattle.fields.proofs.key_of.Statement.{statement}
 use Rattle.fields.proofs.key_of.Tie as tie
 
 returns : tie.Need-returns
-unfolding termsOf
-returns c = let a = c .before .before .args in sym (mask-past (a .terms .now) (a .kind) (omega arith) .1)
+returns c = let a = c .before .args in sym (mask-past (a .terms .now) (a .kind) (omega arith) .1)
 
 returns-2 : tie.Need-returns-2
-unfolding termsOf
-returns-2 c = let a = c .before .before .before .args in c .byte-at .ensures ∙ sym (key-here (a .terms .now) (a .kind) (omega arith))
+unfolding byteAt
+returns-2 c = let a = c .before .before .args in sym (key-here (a .terms .now) (a .kind) (omega arith))
 
 pub key-of-spec : {M : Type 1} → statement M
 key-of-spec =
@@ -22,5 +21,5 @@ key-of-spec =
     returns
     (λ c. search needs)
     (λ c. search needs)
-    (λ c κs. search needs)
+    (λ c. let a = c .before .before .args in omega (arith, kind-here (a .terms .now) (a .kind) (omega arith) .1))
     returns-2)

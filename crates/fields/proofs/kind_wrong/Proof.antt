@@ -4,7 +4,7 @@ use native.Mathlib.Omega.{arith}
 use borrow.Author.Needs.{needs}
 use borrow.Author.Tests.{eq-eqb, ne-eqb}
 use Rattle.model.specs.Bytes.{byteAt}
-use Rattle.fields.proofs.Steps.{kind-wrong-here}
+use Rattle.model.proofs.KindLaws.{kind-wrong-here}
 use Rattle.fields.proofs.kind_wrong.Statement.{statement}
 use Rattle.fields.proofs.kind_wrong.Tie as tie
 

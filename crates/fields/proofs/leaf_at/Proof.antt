@@ -1,20 +1,20 @@
 -- `leaf_at` meets its contract: each answer by what is read so far. Assumes nothing.
 use borrow.Author.Needs.{needs}
 use Rattle.model.specs.Bytes.{byteAt}
-use Rattle.fields.proofs.Steps.{leaf-by}
+use Rattle.model.proofs.PlaceLaws.{leaf-here}
 use Rattle.fields.proofs.leaf_at.Statement.{statement}
 use Rattle.fields.proofs.leaf_at.Tie as tie
 
 returns : tie.Need-returns
 unfolding byteAt
-returns c = let e = c .before .before .before in rw (leaf-by, ← e .event-of .ensures, c .before .enum-told .given .1, c .no-leaf .ensures)
+returns c = let e = c .before .before .before in rw (leaf-here, ← e .event-of .ensures, c .before .enum-told .given .1, c .no-leaf .ensures)
 
 returns-2 : tie.Need-returns-2
 unfolding byteAt
 returns-2 c =
     let l = c .before .before .before in
     let e = l .before .before in
-    rw (leaf-by, ← e .before .before .event-of .ensures, e .event .given .1, ← l .bound-at .ensures, c .before .enum-told2 .given .1, c .no-leaf2 .ensures)
+    rw (leaf-here, ← e .before .before .event-of .ensures, e .event .given .1, ← l .bound-at .ensures, c .before .enum-told2 .given .1, c .no-leaf2 .ensures)
 
 returns-3 : tie.Need-returns-3
 unfolding byteAt
@@ -23,7 +23,7 @@ returns-3 c =
     let l = u .before .before in
     let e = l .before .before .before .before in
     rw (
-      leaf-by,
+      leaf-here,
       ← e .before .before .event-of .ensures,
       e .event .given .1,
       ← l .before .before .bound-at .ensures,
@@ -40,7 +40,7 @@ returns-4 c =
     let l = u .before .before .before .before in
     let e = l .before .before .before .before in
     rw (
-      leaf-by,
+      leaf-here,
       ← e .before .before .event-of .ensures,
       e .event .given .1,
       ← l .before .before .bound-at .ensures,

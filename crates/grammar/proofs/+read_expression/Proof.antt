@@ -4,7 +4,8 @@ use native.Mathlib.Omega.{arith}
 use borrow.Author.Needs.{needs}
 use borrow.Fn.Kinds.{In}
 use borrow.Fn.PlainCycle.{Measures, is, falls, and}
-use Rattle.grammar.proofs.Steps.{inside, expr-no-items, expr-no-kind, expr-no-leaf, expr-leaf, expr-always, expr-no-first, expr-both, left-falls}
+use Rattle.model.proofs.PlaceLaws.{byte-inside}
+use Rattle.grammar.proofs.Steps.{expr-no-items, expr-no-kind, expr-no-leaf, expr-leaf, expr-always, expr-no-first, expr-both, left-falls}
 use Rattle.grammar.proofs.read_expression.Reads as read-expression
 use Rattle.grammar.proofs.read_expression.Kinds as kinds
 use Rattle.grammar.proofs.+read_expression.Lts-read_expression as lts
@@ -38,10 +39,10 @@ no-leaf t c =
     expr-no-leaf (a .items) (a .s .now) (a .at) (omega arith) (c .before .before .read-item .ensures) (c .enum-told .given .1)
 
 add-t12 : (t : ℕ) → lts.Need-add-t12 (claims t) (entry t) read-expression.Post
-add-t12 t c = let a = c .before .before .before .before .args in omega (arith, inside (a .s .now) (a .at) (omega arith))
+add-t12 t c = let a = c .before .before .before .before .args in omega (arith, byte-inside (a .s .now) (a .at) (omega arith))
 
 add-read-expression : (t : ℕ) → lts.Need-add-read-expression (claims t) (entry t) read-expression.Post
-add-read-expression t c = let a = c .before .before .before .before .before .before .args in omega (arith, inside (a .s .now) (a .at) (omega arith))
+add-read-expression t c = let a = c .before .before .before .before .before .before .args in omega (arith, byte-inside (a .s .now) (a .at) (omega arith))
 
 no-first : (t : ℕ) → lts.Need-returns-3 (claims t) (entry t) read-expression.Post
 no-first t c =

@@ -7,7 +7,8 @@ use lib.ListN.{length, drop, length-append}
 use borrow.Author.Needs.{needs}
 use Rattle.model.specs.Bytes.{many, item}
 use Rattle.model.specs.Grammar.{kindsLimit, fileOf}
-use Rattle.grammar.proofs.Steps.{SoFar, so-far, so-far-step, so-far-none, so-far-full, item-ends}
+use Rattle.model.proofs.ReaderLaws.{SoFar, so-far, so-far-step, so-far-none, so-far-full}
+use Rattle.grammar.proofs.Steps.{item-ends}
 use Rattle.grammar.proofs.count_kinds.Statement.{statement}
 use Rattle.grammar.proofs.count_kinds.Tie as tie
 

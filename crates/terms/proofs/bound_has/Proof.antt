@@ -2,7 +2,7 @@
 use borrow.Author.Needs.{needs}
 use Rattle.model.specs.Lists.{anyOf}
 use Rattle.model.specs.Terms.{boundEvents}
-use Rattle.terms.proofs.Steps.{any-one}
+use Rattle.model.proofs.ListLaws.{any-one}
 use Rattle.terms.proofs.bound_has.Statement.{statement}
 use Rattle.terms.proofs.bound_has.Tie as tie
 

@@ -8,7 +8,7 @@ use Rattle.terms.proofs.leaf_has.Statement.{statement}
 use Rattle.terms.proofs.leaf_has.Tie as tie
 
 returns : tie.Need-returns
-unfolding askedOfLeaf termsOf
+unfolding askedOfLeaf
 returns c =
     let a = c .before .before .before .before .before in
     rw (c .before .enum-told .given .1) (c .leaf-wrong .ensures (termsOf (a .args .terms .now)) (a .pre .0 .0 ∙ sym (kinds-count (a .args .terms .now))))

@@ -2,7 +2,7 @@
 use native.Mathlib.Omega.{arith}
 use borrow.Author.Needs.{needs}
 use Rattle.model.specs.Fields.{sharesNone}
-use Rattle.terms.proofs.Steps.{unshared-and}
+use Rattle.model.proofs.MaskLaws.{unshared-and}
 use Rattle.terms.proofs.shares_none.Statement.{statement}
 use Rattle.terms.proofs.shares_none.Tie as tie
 

@@ -6,7 +6,7 @@ use mathlib.Core.Bool.{Bool}
 use mathlib.Core.List.{List, []}
 use lib.ListN.{length, getD, take, drop}
 use Rattle.model.specs.Grammar.{fileOf}
-use Rattle.model.specs.Fields.{kindWrong}
+use Rattle.model.specs.Fields.{kindWrong, kindsWrong}
 use Rattle.model.proofs.KindLaws.{kind-here}
 use Rattle.terms.proofs.Steps.{Left, left-start, left-found, left-next, left-end}
 use Rattle.terms.proofs.some_kind_wrong.Statement.{statement}
@@ -33,6 +33,7 @@ kind-wrong-requires : tie.Need-kind-wrong-requires Inv-loop μ-loop
 kind-wrong-requires c κs = omega (arith, kind-here (c .before .before .before .args .terms .now) (c .before .loop .i) (omega arith) .1)
 
 returns : tie.Need-returns Inv-loop μ-loop
+unfolding kindsWrong
 returns c =
     let l = c .before .before .before .loop in
     left-found _ _ (l .i) (l .inv .1) (omega arith) (wrong-here _ (l .i) _ (omega arith) (c .before .kind-wrong .ensures) ∙ c .if1 .taken)
@@ -43,6 +44,7 @@ loop-again c =
     (omega arith, left-next _ _ (l .i) (l .inv .1) (omega arith) (wrong-here _ (l .i) _ (omega arith) (c .before .kind-wrong .ensures) ∙ c .if1 .left))
 
 returns-2 : tie.Need-returns-2 Inv-loop μ-loop
+unfolding kindsWrong
 returns-2 c = let l = c .before .loop in left-end _ _ (l .i) (l .inv .1) (omega arith)
 
 pub some-kind-wrong-spec : {M : Type 1} → statement M

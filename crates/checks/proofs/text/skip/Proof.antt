@@ -2,8 +2,8 @@
 use Prim.Native.Nat.{_≤_, _-_}
 use borrow.Author.Needs.{needs}
 use lib.ListN.{length}
-use Rattle.checks.proofs.skip.Statement.{statement}
-use Rattle.checks.proofs.skip.Tie as tie
+use Rattle.checks.proofs.text.skip.Statement.{statement}
+use Rattle.checks.proofs.text.skip.Tie as tie
 
 abbrev Inv-loop : tie.InvT-loop
 Inv-loop text from at₀ comment₀ at comment = (from ≤ at) × (at ≤ length text)

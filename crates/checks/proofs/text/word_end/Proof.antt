@@ -2,8 +2,8 @@
 use Prim.Native.Nat.{_≤_, _-_}
 use borrow.Author.Needs.{needs}
 use lib.ListN.{length}
-use Rattle.checks.proofs.word_end.Statement.{statement}
-use Rattle.checks.proofs.word_end.Tie as tie
+use Rattle.checks.proofs.text.word_end.Statement.{statement}
+use Rattle.checks.proofs.text.word_end.Tie as tie
 
 abbrev Inv-loop : tie.InvT-loop
 Inv-loop text from at₀ at = (from ≤ at) × (at ≤ length text)

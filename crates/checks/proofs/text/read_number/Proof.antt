@@ -2,8 +2,8 @@
 use Prim.Native.Nat.{_≤_, _-_}
 use borrow.Author.Needs.{needs}
 use lib.ListN.{length}
-use Rattle.checks.proofs.read_number.Statement.{statement}
-use Rattle.checks.proofs.read_number.Tie as tie
+use Rattle.checks.proofs.text.read_number.Statement.{statement}
+use Rattle.checks.proofs.text.read_number.Tie as tie
 
 abbrev Inv-loop : tie.InvT-loop
 Inv-loop text from at₀ value₀ at value = (from ≤ at) × (at ≤ length text)

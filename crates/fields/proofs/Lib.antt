@@ -1,2 +1,0 @@
--- What the fields at a place say, by the bytes that the code reads.
-pub mod Steps
