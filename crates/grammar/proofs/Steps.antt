@@ -18,8 +18,8 @@ use Rattle.model.specs.Bytes.{byteAt, item}
 use Rattle.model.specs.Grammar.{SchemaItems, size, readBoth, readExpr, readClause, readSchema}
 use Rattle.grammar.specs.declared.Reading.{Reading}
 use Rattle.grammar.specs.declared.Reading.the-variants as reading
-use Rattle.grammar.specs.declared.Expression.{Expression}
-use Rattle.grammar.specs.declared.Expression.the-variants as expression
+use Rattle.grammar.specs.declared.ExpressionReading.{ExpressionReading}
+use Rattle.grammar.specs.declared.ExpressionReading.the-variants as expression
 use Rattle.grammar.specs.Found.{Found, FoundExpr}
 use Rattle.grammar.specs.Places.{ClausesAt, noItems, Starts}
 use Rattle.model.proofs.ReaderLaws.{item-sound}
@@ -33,7 +33,7 @@ join-reads n items s at low high = rw (drop-here s at (byte-inside s at (omega a
 
 -- what is read as the second operand ends the whole
 joined : (n items : ℕ) (s : List ℕ) (at middle left : ℕ) → 4 ≤ byteAt s at → byteAt s at ≤ 6 → FoundExpr n items s (at + 1) (expression.To middle left)
-    → (r : Expression) → FoundExpr n left s middle r → FoundExpr (suc n) (suc items) s at r
+    → (r : ExpressionReading) → FoundExpr n left s middle r → FoundExpr (suc n) (suc items) s at r
 unfolding readBoth bind
 joined n items s at middle left low high a r b = go r b
   where
@@ -43,17 +43,17 @@ joined n items s at middle left low high a r b = go r b
     count : items - size (a .0) ≡ left
     count = omega arith
 
-    go : (r : Expression) → FoundExpr n left s middle r → FoundExpr (suc n) (suc items) s at r
+    go : (r : ExpressionReading) → FoundExpr n left s middle r → FoundExpr (suc n) (suc items) s at r
     go (expression.To end rest) b = (j .join (a .0) (b .0), rw (join-reads n items s at low high, a .1, count, b .1), omega (arith, j .is .is .items (a .0) (b .0)), omega arith, b .4)
     go expression.Nothing b = rw (join-reads n items s at low high, a .1, count, b)
 
 -- what the reader of expressions promises, whatever depth the model's is allowed
-abbrev Reads : ℕ → List ℕ → ℕ → Expression → Type 0
+abbrev Reads : ℕ → List ℕ → ℕ → ExpressionReading → Type 0
 Reads items s at r = (n : ℕ) → items ≤ n → FoundExpr n items s at r
 
 module _ (items : ℕ) (s : List ℕ) (at : ℕ) where
   -- it is enough to go one deeper, with one item taken
-  one-taken : (r : Expression) → 1 ≤ items → ((n : ℕ) → items ≤ suc n → FoundExpr (suc n) (suc (items - 1)) s at r) → Reads items s at r
+  one-taken : (r : ExpressionReading) → 1 ≤ items → ((n : ℕ) → items ≤ suc n → FoundExpr (suc n) (suc (items - 1)) s at r) → Reads items s at r
   one-taken r p f zero h = absurd (omega arith)
   one-taken r p f (suc n) h = let e : suc (items - 1) ≡ items = omega arith in rw e at (f n h)
 
@@ -83,21 +83,21 @@ module _ (items : ℕ) (s : List ℕ) (at : ℕ) where
       (always, read-always n items s at (omega arith) p b in-bytes, omega arith, omega arith, omega arith)
 
   -- a connective without its first operand
-  pub expr-no-first : {first : Expression} → 1 ≤ items → 4 ≤ byteAt s at → byteAt s at ≤ 6
+  pub expr-no-first : {first : ExpressionReading} → 1 ≤ items → 4 ≤ byteAt s at → byteAt s at ≤ 6
       → Reads (items - 1) s (at + 1) first → first ≡ expression.Nothing → Reads items s at expression.Nothing
   unfolding readBoth bind
   expr-no-first p low high f e = one-taken expression.Nothing p (λ n h.
       rw (join-reads n (items - 1) s at low high, rw e at (f n (omega arith))))
 
   -- a connective: what its second operand gives
-  pub expr-both : {first : Expression} (r : Expression) {middle left : ℕ} → 1 ≤ items → 4 ≤ byteAt s at → byteAt s at ≤ 6
+  pub expr-both : {first : ExpressionReading} (r : ExpressionReading) {middle left : ℕ} → 1 ≤ items → 4 ≤ byteAt s at → byteAt s at ≤ 6
       → Reads (items - 1) s (at + 1) first → first ≡ expression.To middle left → Reads left s middle r → Reads items s at r
   expr-both r {middle} {left} p low high f e g = one-taken r p (λ n h.
       let a = rw e at (f n (omega arith)) in
       joined n (items - 1) s at middle left low high a r (g n (omega arith)))
 
   -- no more items are left than there were
-  pub left-falls : {r : Expression} {end left : ℕ} → Reads items s at r → r ≡ expression.To end left → left ≤ items
+  pub left-falls : {r : ExpressionReading} {end left : ℕ} → Reads items s at r → r ≡ expression.To end left → left ≤ items
   left-falls f e = let a = rw e at (f items (omega arith)) in omega arith
 
 -- an item that is read ends behind its body, which is what is read

@@ -41,6 +41,11 @@ Starts s schemas starts =
     (n : ℕ) → n < length schemas
     → (end : ℕ) × ClausesAt s (getD schemas n noItems) (getD starts (3 * n) 0) (getD starts (3 * n + 1) 0) (getD starts (3 * n + 2) 0) end
 
+-- what is known of the places of terms: how many kinds, and where the clause of each rank starts
+abbrev pub Placed : List ℕ → ℕ → List ℕ → Type 0
+Placed s kinds starts =
+    (kinds ≡ length (fileOf s .kinds)) × (length starts ≡ 3 * length (fileOf s .schemas)) × Starts s (fileOf s .schemas) starts
+
 -- what a layout tells of the file that is read
 pub record LaidOut (s : List ℕ) (p : Layout) : Type 0 where
   -- the count of kinds

@@ -22,6 +22,9 @@ pub const EXCEPT: u8 = 6;
 
 pub const ALWAYS: u8 = 7;
 
+// How many bytes the body of a leaf has.
+pub const LEAF_BODY: usize = 16;
+
 // The most items of an expression, event kinds and schemas.
 pub const EXPRESSION_LIMIT: usize = 31;
 
@@ -35,21 +38,22 @@ pub enum Reading {
     Nothing,
 }
 
-// An expression up to an end, and how many more items there may be; or nothing.
-pub enum Expression {
+// An expression read at a place: the place behind it, and how many items are left of those that it may have; or nothing.
+enum ExpressionReading {
     To(usize, usize),
     Nothing,
 }
 
 // Where the clauses of a schema start, and where the last one ends.
-pub struct Clauses {
-    pub create: usize,
-    pub detach: usize,
-    pub consequent: usize,
-    pub end: usize,
+struct Clauses {
+    create: usize,
+    detach: usize,
+    consequent: usize,
+    end: usize,
 }
 
-pub enum SchemaReading {
+// A schema read at a place: where its clauses are; or nothing.
+enum SchemaReading {
     Is(Clauses),
     Nothing,
 }
@@ -96,7 +100,7 @@ pub fn u32_at(s: &[u8], at: usize) -> u32
 }
 
 // An item of a kind with a body of so many bytes, whatever they hold.
-pub fn read_item(s: &[u8], at: usize, kind: u8, body: usize) -> Reading
+fn read_item(s: &[u8], at: usize, kind: u8, body: usize) -> Reading
     ensures { λ r. ⌜ Found (item kind body) (now (s .entry)) at r ⌝ }
 {
     if s.len() <= at {
@@ -112,42 +116,42 @@ pub fn read_item(s: &[u8], at: usize, kind: u8, body: usize) -> Reading
 }
 
 // An expression of at most so many items: a leaf, always, or a connective and its two operands.
-pub fn read_expression(s: &[u8], at: usize, items: usize) -> Expression
+fn read_expression(s: &[u8], at: usize, items: usize) -> ExpressionReading
     ensures { λ r. ⌜ ((n : ℕ) → items ≤ n → FoundExpr n items (now (s .entry)) at r) ⌝ }
 {
     if items == 0 {
-        return Expression::Nothing;
+        return ExpressionReading::Nothing;
     }
     match byte_at(s, at) {
         LEAF => {
-            let Reading::To(end) = read_item(s, at, LEAF, 16) else {
-                return Expression::Nothing;
+            let Reading::To(end) = read_item(s, at, LEAF, LEAF_BODY) else {
+                return ExpressionReading::Nothing;
             };
-            Expression::To(end, items - 1)
+            ExpressionReading::To(end, items - 1)
         }
         AND | OR | EXCEPT => {
-            let Expression::To(middle, left) = read_expression(s, at + 1, items - 1) else {
-                return Expression::Nothing;
+            let ExpressionReading::To(middle, left) = read_expression(s, at + 1, items - 1) else {
+                return ExpressionReading::Nothing;
             };
             read_expression(s, middle, left)
         }
-        ALWAYS => Expression::To(at + 1, items - 1),
-        _ => Expression::Nothing,
+        ALWAYS => ExpressionReading::To(at + 1, items - 1),
+        _ => ExpressionReading::Nothing,
     }
 }
 
-// A clause.
-pub fn read_clause(s: &[u8], at: usize) -> Reading
+// A clause: an expression of at most 31 items.
+fn read_clause(s: &[u8], at: usize) -> Reading
     ensures { λ r. ⌜ Found readClause (now (s .entry)) at r ⌝ }
 {
-    let Expression::To(end, _) = read_expression(s, at, EXPRESSION_LIMIT) else {
+    let ExpressionReading::To(end, _) = read_expression(s, at, EXPRESSION_LIMIT) else {
         return Reading::Nothing;
     };
     Reading::To(end)
 }
 
 // A schema: its head, then create, detach and consequent.
-pub fn read_schema(s: &[u8], at: usize) -> SchemaReading
+fn read_schema(s: &[u8], at: usize) -> SchemaReading
     ensures { λ r. ⌜ FoundSchema (now (s .entry)) at r ⌝ }
 {
     let Reading::To(create) = read_item(s, at, SCHEMA, 4) else {
@@ -171,7 +175,7 @@ pub fn read_schema(s: &[u8], at: usize) -> SchemaReading
 }
 
 // How many kinds stand at the front.
-pub fn count_kinds(s: &[u8]) -> usize
+fn count_kinds(s: &[u8]) -> usize
     ensures { λ r. ⌜ (r ≡ length (fileOf (now (s .entry)) .kinds)) × (drop (5 * r) (now (s .entry)) ≡ many (item 1 4) kindsLimit (now (s .entry)) .1) × (5 * r ≤ length (now (s .entry))) ⌝ }
 {
     let mut n: usize = 0;

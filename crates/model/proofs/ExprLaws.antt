@@ -3,7 +3,7 @@
 --     expr-deep, expr-depth           depth as much as items is enough
 --     Joining, and-joins, …, joins    the connectives, in items and in meaning
 --     read-leaf, read-always, read-join, read-none   what is read at a place, by the byte there
---     leaf-is, always-is, join-is     the way back: what was read there, by the byte
+--     read-inside, leaf-is, always-is, join-is     the way back: what was read there, by the byte
 --     expr-some, expr-none, expr-clause   what stands at a place, by what is read there
 --     expr-leaf, expr-always, expr-join   the same by the byte there and, of a connective, by what was read behind it
 -- Assumes nothing.
@@ -120,8 +120,8 @@ pub read-always : (n items : ℕ) (s : List ℕ) (at : ℕ) → 0 < n → 0 < it
 read-always n items s at g h e l = rw (drop-here s at l, e) (unfold exprBytes size leaves in (expr-whole n items always (drop (at + 1) s) g h tt))
 
 -- what is read stands before the end
-inside : (n items : ℕ) (s : List ℕ) (at : ℕ) (x : E) (t : List ℕ) → readExpr n items (drop at s) ≡ some (x, t) → at < length s
-inside n items s at x t e = omega (arith, ap length (expr-read n items (drop at s) x t e .0), length-append (exprBytes x) t, length-drop at s, expr-long x)
+pub read-inside : (n items : ℕ) (s : List ℕ) (at : ℕ) (x : E) (t : List ℕ) → readExpr n items (drop at s) ≡ some (x, t) → at < length s
+read-inside n items s at x t e = omega (arith, ap length (expr-read n items (drop at s) x t e .0), length-append (exprBytes x) t, length-drop at s, expr-long x)
 
 -- a connective at a place, by what was read behind its byte
 pub read-join : {kind : ℕ} {join : E → E → E} → Connective kind join
@@ -131,7 +131,7 @@ read-join {kind} {join} is n m k s at items a b u t h e p q =
     let left = expr-read n (items - 1) (drop (at + 1) s) a u p in
     let right = expr-read m (items - 1 - size a) u b t q in
     let front : drop at s ≡ exprBytes (join a b) ++ t =
-    rw (is .bytes, append-assoc) (cc (drop-here s at (omega (arith, inside n (items - 1) s (at + 1) a u p)), e, left .0, right .0)) in
+    rw (is .bytes, append-assoc) (cc (drop-here s at (omega (arith, read-inside n (items - 1) s (at + 1) a u p)), e, left .0, right .0)) in
     let count : size (join a b) ≤ items = omega (arith, is .items a b, left .1, right .1, size-positive a, size-positive b) in
     rw front (expr-whole k items (join a b) t (omega arith) count (rw (is .bodies) (all-append Sixteen (leaves a) (leaves b) (left .2) (right .2))))
 
@@ -193,7 +193,7 @@ module _ (n items : ℕ) (s : List ℕ) (at : ℕ) (x : E) (t : List ℕ) (found
       go : (b : Bool) → eqb (byteAt s at) 7 ≡ b → (x ≡ always) × (t ≡ drop (at + 1) s)
       go true e =
           let more = some-left n items (drop at s) x t found in
-          found-eq (sym found ∙ read-always n items s at (more .0) (more .1) (eqb-true _ 7 e) (inside n items s at x t found))
+          found-eq (sym found ∙ read-always n items s at (more .0) (more .1) (eqb-true _ 7 e) (read-inside n items s at x t found))
       go false e =
           let other = eqb-false (byteAt s at) 7 e in
           let no-leaf = item-other 3 16 s at (λ b. out (omega arith) (omega arith)) in
@@ -206,7 +206,7 @@ unfolding readBoth
 join-is is zero items s at x t k e = absurd (omega (arith, some-left zero items (drop at s) x t e))
 join-is is (suc n) zero s at x t k e = absurd (omega (arith, some-left (suc n) zero (drop at s) x t e))
 join-is is (suc n) (suc items) s at x t k e =
-    bind-cases (readExpr n items (drop (at + 1) s)) _ (rw (drop-here s at (inside (suc n) (suc items) s at x t e), k, is .reads n items) at e) λ a p e₁.
+    bind-cases (readExpr n items (drop (at + 1) s)) _ (rw (drop-here s at (read-inside (suc n) (suc items) s at x t e), k, is .reads n items) at e) λ a p e₁.
     bind-cases (readExpr n (items - size (a .0)) (a .1)) _ e₁ λ b q e₂.
     let same = found-eq e₂ in
     let one : (k : ℕ) → suc k - 1 ≡ k = λ k. omega arith in

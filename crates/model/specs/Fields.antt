@@ -63,7 +63,7 @@ leafOf body =
 unfoldable pub neither : Leaf
 neither = record { event = Kind 0; lower = Open; upper = Open }
 
--- the leaf that a body stands for (item 03); where a form or a sign of it names nothing, neither
+-- the leaf that a body stands for (item 03); neither, where the form of an event or a sign names nothing
 unfoldable pub leafFrom : List ℕ → Leaf
 leafFrom body = elim (leafOf body) [ none ↦ neither | some x ↦ x ]
 

@@ -1,191 +1,121 @@
--- A clause walked item by item in file order, with a count of the expressions still to come.
---     Item, item-of      each expression is one item: its kind byte, a body of its own, and its operands
---     Walk               the walk at a place: the pending expressions stand there, and the question is left to their leaves
---     walk-start         at the start the clause itself is pending
---     walk-few           there are no more expressions pending than bytes
---     Turn, walk-turn    the item at the place is within the bytes; it has what is asked, or the walk goes on behind it
---     walk-end           where nothing is pending, nothing was found
+-- A question asked over an expression as the code reads it: one lemma for each answer.
+--     stands-here, stands-leaf              an expression and its first item are within the bytes
+--     leaf-found, leaf-past, always-past    at a leaf, and at always
+--     stands-first, stands-second           the operands of a connective stand behind its byte
+--     first-found, second-walks             at a connective
+--     first-falls                           fewer items are left for the second operand
 -- Assumes nothing.
-use Prim.Native.Nat.{ℕ, suc, _+_, _-_, _≤_, _<_}
+use Prim.Native.Nat.{ℕ, _+_, _-_, _≤_, _<_}
 use native.Mathlib.Omega.{arith}
-use mathlib.Core.Path.{_≡_, refl, ap, sym, _∙_}
-use mathlib.Core.Bool.{Bool, true, false, cond, _&&_, _||_}
-use mathlib.Core.List.{List, [], _∷_, _++_, flatMap, append-assoc, append-nil}
-use lib.Dec.{eqb, leb, ltb}
-use lib.ListN.{length, take, drop, length-append, length-drop}
-use lib.Seq.{take-at, drop-at, drop-drop}
-use Rattle.model.specs.Lists.{anyOf, All}
-use Rattle.model.specs.Terms.{leaf, and, or, except, always, leaves}
+use mathlib.Core.Path.{_≡_, refl, ap, _∙_}
+use mathlib.Core.Bool.{Bool, true, false, _||_}
+use mathlib.Core.List.{List}
+use mathlib.Core.Option.{some}
+use lib.ListN.{length, take, drop}
+use Rattle.model.specs.Lists.{anyOf}
+use Rattle.model.specs.Terms.{leaf, always, leaves}
 use Rattle.model.specs.Bytes.{byteAt}
-use Rattle.model.specs.Grammar.{exprLimit, readClause, exprBytes}
+use Rattle.model.specs.Grammar.{size, readExpr}
 use Rattle.model.specs.Calls.{termsOf}
-use Rattle.model.proofs.ListLaws.{all-split, flatMap-append}
-use Rattle.model.proofs.GrammarLaws.{E, Sixteen, expr-long, expr-read}
-use Rattle.model.proofs.PlaceLaws.{drop-here}
+use Rattle.model.proofs.ListLaws.{any-append}
+use Rattle.model.proofs.GrammarLaws.{E, Connective, size-positive, expr-read}
+use Rattle.model.proofs.ExprLaws.{Joins, joins, Parts, read-inside, leaf-is, always-is, join-is}
+use Rattle.grammar.specs.Found.{StandsExpr}
 use Rattle.terms.specs.declared.Question.{Question}
-use Rattle.terms.specs.Questions.{askedOfLeaf, itemLength, operandsOf, itemHas, clauseHas, ClauseAt}
+use Rattle.terms.specs.declared.Walked.{Walked}
+use Rattle.terms.specs.declared.Walked.the-variants.{Found, To}
+use Rattle.terms.specs.Questions.{askedOfLeaf, clauseHas, WalkedOver, Walks}
 
--- the body of an item of a kind, if it is a leaf
-abbrev ownLeaf : ℕ → List ℕ → List (List ℕ)
-ownLeaf kind own = cond (eqb kind 3) (own ∷ []) []
+-- a connective has what either operand has
+join-has : {kind : ℕ} {join : E → E → E} → Connective kind join → (s : List ℕ) (q : Question) (a b : E) → clauseHas s q (join a b) ≡ (clauseHas s q a || clauseHas s q b)
+unfolding clauseHas
+join-has is s q a b = rw (is .bodies) (any-append (askedOfLeaf (termsOf s) q) (leaves a) (leaves b))
 
--- an expression as one item
-record Item (x : E) : Type 0 where
-  -- its kind byte
-  pub kind : ℕ
-  -- its body
-  pub own : List ℕ
-  -- the expressions that follow it
-  pub parts : List E
-  -- these are its bytes
-  pub written : exprBytes x ≡ kind ∷ (own ++ flatMap exprBytes parts)
-  -- its length goes by its kind
-  pub long : suc (length own) ≡ itemLength kind
-  -- so does how many expressions follow
-  pub few : length parts ≡ operandsOf kind
-  -- its leaves are its own, if it is one, and theirs
-  pub bodies : leaves x ≡ ownLeaf kind own ++ flatMap leaves parts
+module _ (s : List ℕ) (at items : ℕ) (w : StandsExpr s at items) where
+  -- it stands within the bytes, and has an item
+  pub stands-here : (at < length s) × (1 ≤ items)
+  stands-here = (read-inside items items s at (w .0) (w .1) (w .2), omega (arith, expr-read items items (drop at s) (w .0) (w .1) (w .2) .1, size-positive (w .0)))
 
--- each expression is one
-item-of : (x : E) → All Sixteen (leaves x) → Item x
-unfolding exprBytes leaves flatMap itemLength operandsOf
-item-of (leaf body) h = record { kind = 3; own = body; parts = []; written = rw append-nil; long = ap suc (h .0); few = refl; bodies = refl }
-item-of (and a b) h = record { kind = 4; own = []; parts = a ∷ b ∷ []; written = rw append-nil; long = refl; few = refl; bodies = rw append-nil }
-item-of (or a b) h = record { kind = 5; own = []; parts = a ∷ b ∷ []; written = rw append-nil; long = refl; few = refl; bodies = rw append-nil }
-item-of (except a b) h = record { kind = 6; own = []; parts = a ∷ b ∷ []; written = rw append-nil; long = refl; few = refl; bodies = rw append-nil }
-item-of always h = record { kind = 7; own = []; parts = []; written = refl; long = refl; few = refl; bodies = refl }
+  -- a leaf has its body
+  pub stands-leaf : byteAt s at ≡ 3 → at + 17 ≤ length s
+  stands-leaf e = leaf-is items items s at (w .0) (w .1) (w .2) e .2
 
--- at most two expressions follow an item
-pub operands-few : (kind : ℕ) → operandsOf kind ≤ 2
-unfolding operandsOf
-operands-few kind = go (leb 4 kind && ltb kind 7)
-  where
-    go : (b : Bool) → cond b 2 0 ≤ 2
-    go true = omega arith
-    go false = omega arith
+module _ (s : List ℕ) (q : Question) (at items : ℕ) where
+  -- a leaf that has it
+  pub leaf-found : {b : Bool} → byteAt s at ≡ 3 → b ≡ askedOfLeaf (termsOf s) q (take 16 (drop (at + 1) s)) → b ≡ true → Walks s q at items Found
+  unfolding clauseHas leaves anyOf
+  leaf-found e h b x t found = rw (leaf-is items items s at x t found e .0, ← h, b)
 
--- expressions are no more than their bytes
-exprs-long : (xs : List E) → length xs ≤ length (flatMap exprBytes xs)
-unfolding flatMap
-exprs-long [] = omega arith
-exprs-long (x ∷ xs) = rw (length-append (exprBytes x)) (omega (arith, expr-long x, exprs-long xs))
+  -- a leaf that has it not
+  pub leaf-past : {b : Bool} → byteAt s at ≡ 3 → b ≡ askedOfLeaf (termsOf s) q (take 16 (drop (at + 1) s)) → b ≡ false → Walks s q at items (To (at + 1 + 16) (items - 1))
+  unfolding clauseHas leaves anyOf size
+  leaf-past e h b x t found =
+      let l = leaf-is items items s at x t found e in
+      let one : size x ≡ 1 = ap size (l .0) in
+      let end : at + 17 ≡ at + 1 + 16 = omega arith in
+      (rw (l .0, ← h, b), rw (← end) (l .1), omega arith, omega (arith, expr-read items items (drop at s) x t found .1))
 
--- a test of a list that begins with an item's own leaf
-own-first : (p : List ℕ → Bool) (b : Bool) (own : List ℕ) (l : List (List ℕ)) → anyOf p (cond b (own ∷ []) [] ++ l) ≡ ((b && p own) || anyOf p l)
-unfolding anyOf
-own-first p true own l = refl
-own-first p false own l = refl
+  -- always
+  pub always-past : (3 ≤ byteAt s at → byteAt s at ≤ 6 → ⊥) → at < length s → Walks s q at items (To (at + 1) (items - 1))
+  unfolding clauseHas leaves anyOf size
+  always-past out inside x t found =
+      let l = always-is items items s at x t found out in
+      let one : size x ≡ 1 = ap size (l .0) in
+      (rw (l .0), l .1, omega arith, omega (arith, expr-read items items (drop at s) x t found .1))
 
--- the byte at a place, by the bytes from there on
-front : (s : List ℕ) (at b : ℕ) (u : List ℕ) → drop at s ≡ b ∷ u → (at < length s) × (byteAt s at ≡ b) × (drop (at + 1) s ≡ u)
-front s at b u e =
-    let long : length (drop at s) ≡ suc (length u) = ap length e in
-    let inside : at < length s = omega (arith, length-drop at s) in
-    let here = drop-here s at inside in
-    (inside, cc, cc)
+  module _ (low : 4 ≤ byteAt s at) (high : byteAt s at ≤ 6) where
+    -- the connective
+    j : Joins (byteAt s at)
+    j = joins (byteAt s at) low high
 
--- an expression and those behind it, in bytes: its own, then its operands and those behind it
-bytes-step : (x : E) (xs : List E) (behind : List ℕ) (i : Item x)
-    → flatMap exprBytes (x ∷ xs) ++ behind ≡ i .kind ∷ (i .own ++ (flatMap exprBytes (i .parts ++ xs) ++ behind))
-unfolding flatMap
-bytes-step x xs behind i = rw (flatMap-append exprBytes (i .parts) xs, i .written) (simp append-assoc)
+    -- its operands
+    parts : (x : E) (t : List ℕ) → readExpr items items (drop at s) ≡ some (x, t) → Parts (j .join) items s at x t
+    parts x t found = join-is (j .is) items items s at x t refl found
 
--- in leaves
-leaves-step : (x : E) (xs : List E) (i : Item x) → flatMap leaves (x ∷ xs) ≡ ownLeaf (i .kind) (i .own) ++ flatMap leaves (i .parts ++ xs)
-unfolding flatMap
-leaves-step x xs i = rw (flatMap-append leaves (i .parts) xs, i .bodies) (append-assoc (ownLeaf (i .kind) (i .own)) (flatMap leaves (i .parts)) (flatMap leaves xs))
+    -- the first stands behind its byte
+    pub stands-first : StandsExpr s at items → StandsExpr s (at + 1) (items - 1)
+    stands-first w = let p = parts (w .0) (w .1) (w .2) in (p .a, p .u, p .first)
 
-module _ (s : List ℕ) (q : Question) where
-  -- the item at a place, by its body
-  item-here : (at kind : ℕ) (own u : List ℕ) → byteAt s at ≡ kind → drop (at + 1) s ≡ own ++ u → suc (length own) ≡ itemLength kind
-      → itemHas s q at ≡ (eqb kind 3 && askedOfLeaf (termsOf s) q own)
-  unfolding itemHas itemLength
-  item-here at kind own u e f long = rw (e, f) (go (eqb kind 3) long)
-    where
-      go : (b : Bool) → suc (length own) ≡ cond b 17 1 → (b && askedOfLeaf (termsOf s) q (take 16 (own ++ u))) ≡ (b && askedOfLeaf (termsOf s) q own)
-      go true long = ap (askedOfLeaf (termsOf s) q) (take-at own u 16 (omega arith))
-      go false long = refl
+    module _ {first : Walked} (walks : Walks s q (at + 1) (items - 1) first) where
+      -- the first has it
+      pub first-found : first ≡ Found → Walks s q at items Found
+      first-found e x t found =
+          let p = parts x t found in
+          let has : clauseHas s q (p .a) ≡ true = rw e at (walks (p .a) (p .u) (p .first)) in
+          rw (p .is, join-has (j .is .is) s q (p .a) (p .b), has)
 
-  -- the walk at a place with so many expressions pending; whole is the answer for the clause
-  pub record Walk (whole : Bool) (at pending : ℕ) : Type 0 where
-    -- the pending expressions
-    pub xs : List E
-    -- the bytes behind them
-    pub behind : List ℕ
-    -- they stand at the place
-    pub bytes : drop at s ≡ flatMap exprBytes xs ++ behind
-    -- their leaves have 16 bytes
-    pub bodies : All Sixteen (flatMap leaves xs)
-    -- so many
-    pub count : length xs ≡ pending
-    -- nothing was found before them
-    pub left : whole ≡ anyOf (askedOfLeaf (termsOf s) q) (flatMap leaves xs)
+      module _ {middle left : ℕ} (e : first ≡ To middle left) where
+        -- what the first leaves
+        behind : (x : E) (t : List ℕ) (found : readExpr items items (drop at s) ≡ some (x, t)) → let p = parts x t found in
+            (clauseHas s q (p .a) ≡ false) × (readExpr left left (drop middle s) ≡ some (p .b, t)) × (size (p .a) + left ≡ items - 1)
+        behind x t found =
+            let p = parts x t found in
+            let w : WalkedOver s q (items - 1) (p .a) (p .u) (To middle left) = rw e at (walks (p .a) (p .u) (p .first)) in
+            let rest : items - 1 - size (p .a) ≡ left = omega arith in
+            (w .0, rw (← rest, ← w .1) (p .second), w .3)
 
-  -- at the start
-  pub walk-start : (at : ℕ) (x : E) → ClauseAt s at x → Walk (clauseHas s q x) at 1
-  unfolding readClause flatMap clauseHas
-  walk-start at x e =
-      let found = expr-read exprLimit exprLimit (drop at s) x (e .0) (e .1) in
-      record { xs = x ∷ []; behind = e .0; bytes = rw append-nil (found .0); bodies = rw append-nil (found .2); count = refl; left = rw append-nil }
+        -- the second stands behind the first
+        pub stands-second : StandsExpr s at items → StandsExpr s middle left
+        stands-second w = (parts (w .0) (w .1) (w .2) .b, w .1, behind (w .0) (w .1) (w .2) .1)
 
-  -- the item at the place
-  pub record Turn (whole : Bool) (at pending : ℕ) : Type 0 where
-    -- it has a byte
-    pub long : 1 ≤ itemLength (byteAt s at)
-    -- it stands within the bytes
-    pub inside : at + itemLength (byteAt s at) ≤ length s
-    -- so does a leaf's body
-    pub leaf-inside : byteAt s at ≡ 3 → at + 17 ≤ length s
-    -- it has what is asked
-    pub found : itemHas s q at ≡ true → whole ≡ true
-    -- or the walk goes on behind it
-    pub goes-on : itemHas s q at ≡ false → Walk whole (at + itemLength (byteAt s at)) (pending - 1 + operandsOf (byteAt s at))
+        -- fewer items are left for it
+        pub first-falls : StandsExpr s at items → left < items
+        first-falls w = omega (arith, behind (w .0) (w .1) (w .2) .2, expr-read items items (drop at s) (w .0) (w .1) (w .2) .1, size-positive (w .0))
 
-  module _ {whole : Bool} {at pending : ℕ} (w : Walk whole at pending) where
-    -- no more pending than bytes
-    pub walk-few : pending ≤ length s
-    walk-few = omega (arith, w .count, exprs-long (w .xs), length-append (flatMap exprBytes (w .xs)) (w .behind), length-drop at s, ap length (w .bytes))
+        -- what is found in the second
+        pub second-walks : (r : Walked) → Walks s q middle left r → Walks s q at items r
+        second-walks r f x t found = go r (f (p .b) t (l .1))
+          where
+            p : Parts (j .join) items s at x t
+            p = parts x t found
 
-    -- one item
-    pub walk-turn : 0 < pending → Turn whole at pending
-    unfolding flatMap itemLength
-    walk-turn h = go (w .xs) (w .bytes) (w .bodies) (w .count) (w .left)
-      where
-        p : List ℕ → Bool
-        p = askedOfLeaf (termsOf s) q
+            l : (clauseHas s q (p .a) ≡ false) × (readExpr left left (drop middle s) ≡ some (p .b, t)) × (size (p .a) + left ≡ items - 1)
+            l = behind x t found
 
-        go : (xs : List E) → drop at s ≡ flatMap exprBytes xs ++ w .behind → All Sixteen (flatMap leaves xs) → length xs ≡ pending → whole ≡ anyOf p (flatMap leaves xs)
-            → Turn whole at pending
-        go [] bytes bodies count left = absurd (omega arith)
-        go (x ∷ xs) bytes bodies count left =
-            let i = item-of x (all-split Sixteen (leaves x) (flatMap leaves xs) bodies .0) in
-            let rest = flatMap exprBytes (i .parts ++ xs) ++ w .behind in
-            let here = front s at (i .kind) (i .own ++ rest) (bytes ∙ bytes-step x xs (w .behind) i) in
-            let long : itemLength (byteAt s at) ≡ suc (length (i .own)) = ap itemLength (here .1) ∙ sym (i .long) in
-            let place : at + itemLength (byteAt s at) ≡ at + 1 + length (i .own) = omega arith in
-            let item = item-here at (i .kind) (i .own) rest (here .1) (here .2) (i .long) in
-            let all = left ∙ ap (anyOf p) (leaves-step x xs i) ∙ own-first p (eqb (i .kind) 3) (i .own) (flatMap leaves (i .parts ++ xs)) in
-            let inside : at + itemLength (byteAt s at) ≤ length s = omega (arith, here .0, length-drop (at + 1) s, length-append (i .own) rest, ap length (here .2)) in
-            record {
-              long = omega arith;
-              inside = inside;
-              leaf-inside = λ e. omega (arith, ap itemLength e);
-              found = λ e. all ∙ ap (λ (b : Bool). b || anyOf p (flatMap leaves (i .parts ++ xs))) (sym item ∙ e);
-              goes-on = λ e. record {
-                xs = i .parts ++ xs;
-                behind = w .behind;
-                bytes = ap (λ (k : ℕ). drop k s) place ∙ sym (drop-drop (length (i .own)) (at + 1) s) ∙ ap (drop (length (i .own))) (here .2) ∙ drop-at (i .own) rest _ refl;
-                bodies = all-split Sixteen (ownLeaf (i .kind) (i .own)) (flatMap leaves (i .parts ++ xs)) (rw (leaves-step x xs i) at bodies) .1;
-                count = omega (arith, length-append (i .parts) xs, i .few, ap operandsOf (here .1));
-                left = all ∙ ap (λ (b : Bool). b || anyOf p (flatMap leaves (i .parts ++ xs))) (sym item ∙ e);
-              };
-            }
+            same : clauseHas s q x ≡ clauseHas s q (p .b)
+            same = ap (clauseHas s q) (p .is) ∙ join-has (j .is .is) s q (p .a) (p .b) ∙ ap (λ (b : Bool). b || clauseHas s q (p .b)) (l .0)
 
-    -- at the end
-    pub walk-end : pending ≡ 0 → whole ≡ false
-    unfolding anyOf flatMap
-    walk-end e = go (w .xs) (w .count) (w .left)
-      where
-        go : (xs : List E) → length xs ≡ pending → whole ≡ anyOf (askedOfLeaf (termsOf s) q) (flatMap leaves xs) → whole ≡ false
-        go [] count left = left
-        go (x ∷ xs) count left = absurd (omega arith)
+            go : (r : Walked) → WalkedOver s q left (p .b) t r → WalkedOver s q items x t r
+            go Found h = same ∙ h
+            go (To end rest) h =
+                (same ∙ h .0, h .1, h .2, omega (arith, l .2, ap size (p .is), j .is .is .items (p .a) (p .b), expr-read items items (drop at s) x t found .1))

@@ -12,7 +12,7 @@ use mathlib.Core.Path.{_≡_, refl, ap, sym, _∙_}
 use mathlib.Core.Bool.{Bool, _||_, or-assoc}
 use mathlib.Core.List.{List, [], _∷_}
 use lib.Dec.{eqb, ltb, eqb·suc-zero}
-use lib.ListN.{length, getD, take, drop, length-map}
+use lib.ListN.{length, getD, take, length-map}
 use lib.Seq.{length-take-le, getD-take}
 use Rattle.model.specs.Lists.{numbersFrom, isEmpty, anyOf}
 use Rattle.model.specs.Terms.{Expr, schemaAt}
@@ -23,12 +23,12 @@ use Rattle.model.proofs.GrammarLaws.{file-read}
 use Rattle.model.proofs.PlaceLaws.{left-over}
 use Rattle.model.proofs.ExprLaws.{any-event}
 use Rattle.grammar.specs.declared.Layout.{Layout}
-use Rattle.grammar.specs.Places.{noItems, LaidOut}
+use Rattle.grammar.specs.Places.{noItems, Placed, LaidOut}
 use Rattle.terms.specs.declared.EventQuestion.{EventQuestion}
 use Rattle.terms.specs.declared.EventQuestion.the-variants.{CitesFrom, SharesNone}
 use Rattle.terms.specs.declared.Question.the-variants.{OutOfRange, SomeEvent}
 use Rattle.terms.specs.declared.Fault.the-variants.{Field, Citation, Unshared}
-use Rattle.terms.specs.Questions.{asked, askedOfLeaf, clauseHas, clausesHave, schemaHas, Placed}
+use Rattle.terms.specs.Questions.{asked, askedOfLeaf, clauseHas, clausesHave, schemaHas}
 use Rattle.terms.proofs.Steps.{schema-here}
 
 -- a test of a list's elements, by their numbers from k on
@@ -93,10 +93,9 @@ empty-count [] = refl
 empty-count (x ∷ l) = sym (eqb·suc-zero (length l))
 
 -- refusal 2
-pub grammar-here : (s : List ℕ) (kinds schemas rest : ℕ) → kinds ≡ length (fileOf s .kinds) → schemas ≡ length (fileOf s .schemas)
-    → drop rest s ≡ fileOf s .rest → breaksGrammar (fileOf s) ≡ (eqb kinds 0 || eqb schemas 0 || ltb rest (length s))
+pub grammar-here : (s : List ℕ) (p : Layout) → LaidOut s p → breaksGrammar (fileOf s) ≡ (eqb (p .kinds) 0 || eqb (p .schemas) 0 || ltb (p .rest) (length s))
 unfolding breaksGrammar
-grammar-here s kinds schemas rest e f g = rw (e, f, ← g, empty-count (fileOf s .kinds), empty-count (fileOf s .schemas), left-over s rest)
+grammar-here s p laid = rw (empty-count (fileOf s .kinds), empty-count (fileOf s .schemas), ← laid .kinds-read, ← laid .schemas-read, ← laid .rest-read .0, left-over s (p .rest))
 
 -- a layout's array has room for all starts
 pub layout-few : (s : List ℕ) (p : Layout) → LaidOut s p → p .schemas ≤ 16

@@ -39,12 +39,12 @@ schema-here s n h = getD-map-in schemaFrom (fileOf s .schemas) n _ noItems h
 
 -- its subject kind is the second byte of its head, which stands right before the create clause
 pub subject-here : (s starts : List ℕ) (n : ℕ) → Starts s (fileOf s .schemas) starts → n < length (fileOf s .schemas)
-    → schemaAt (termsOf s) n .subject ≡ byteAt s (getD starts (3 * n) 0 - 3)
+    → schemaAt (termsOf s) n .subject ≡ byteAt s (getD starts (3 * n) 0 - 4 + 1)
 unfolding schemaFrom
 subject-here s starts n laid h =
     let found = laid n h .1 in
     let at = getD starts (3 * n) 0 in
-    rw (schema-here s n h, found .head-body) (byte-within s (at - 4) 1 4 (omega arith) ∙ ap (byteAt s) (omega (arith, found .head-inside .0)))
+    rw (schema-here s n h, found .head-body) (byte-within s (at - 4) 1 4 (omega arith))
 
 -- past the last schema
 pub subject-past : (s : List ℕ) (n : ℕ) → length (fileOf s .schemas) ≤ n → schemaAt (termsOf s) n .subject ≡ 0

@@ -6,7 +6,9 @@ use fields::leaf_wrong;
 use fields::mask_of;
 use grammar::AND;
 use grammar::EXCEPT;
+use grammar::EXPRESSION_LIMIT;
 use grammar::LEAF;
+use grammar::LEAF_BODY;
 use grammar::Layout;
 use grammar::OR;
 use grammar::read_layout;
@@ -17,17 +19,17 @@ use model::Refusal;
 use model::Stage;
 ghost use mathlib.Core.Path.{_≡_};
 ghost use mathlib.Core.List.{List};
-ghost use Prim.Native.Nat.{ℕ, _+_, _*_, _<_, _≤_};
-ghost use lib.ListN.{length, take, drop};
+ghost use Prim.Native.Nat.{ℕ, _+_, _-_, _*_, _<_, _≤_};
+ghost use lib.ListN.{length, getD, take, drop};
 ghost use Rattle.model.specs.Lists.{numbersFrom, anyOf};
 ghost use Rattle.model.specs.Terms.{Expr, schemaAt, kindOf, rank, boundEvents};
-ghost use Rattle.model.specs.Bytes.{byteAt};
 ghost use Rattle.model.specs.Grammar.{fileOf, breaksGrammar};
 ghost use Rattle.model.specs.Fields.{kindsWrong, fieldWrong, citesFrom, sharesNone};
 ghost use Rattle.model.specs.Answers.{checkedAnswer};
 ghost use Rattle.model.specs.Calls.{termsOf, checkTerms};
-ghost use Rattle.grammar.specs.Places.{LaidOut};
-ghost use Rattle.terms.specs.Questions.{asked, askedOfLeaf, itemLength, operandsOf, itemHas, clauseHas, clausesHave, ClauseAt, schemaHas, Placed};
+ghost use Rattle.grammar.specs.Found.{StandsExpr};
+ghost use Rattle.grammar.specs.Places.{Placed, LaidOut};
+ghost use Rattle.terms.specs.Questions.{asked, askedOfLeaf, clauseHas, Walks, clausesHave, ClauseAt, schemaHas};
 
 // The most bytes of terms.
 pub const TERMS_LIMIT: usize = 16384;
@@ -43,6 +45,12 @@ pub enum EventQuestion {
 pub enum Question {
     OutOfRange,
     SomeEvent(EventQuestion),
+}
+
+// What a question finds in an expression: some leaf has it; or none has, and the expression ends at a place, with so many items left.
+enum Walked {
+    Found,
+    To(usize, usize),
 }
 
 // The fault of refusals 3, 4 and 5 at a schema.
@@ -76,17 +84,24 @@ fn cites_from(k: usize, event: Event) -> bool
     }
 }
 
+// Where the body of a schema's item 02 starts: right before its create clause.
+fn head_at(starts: &[usize], n: usize) -> usize
+    requires { ⌜ (3 * n < length (now starts)) × (4 ≤ getD (now starts) (3 * n) 0) ⌝ }
+    ensures { λ r. ⌜ r ≡ getD (now (starts .entry)) (3 * n) 0 - 4 ⌝ }
+{
+    let create = starts[3 * n];
+    create - 4
+}
+
 // The subject kind of a schema; past the last schema it is 0.
-pub fn subject_of(terms: &[u8], kinds: usize, starts: &[usize], schema: u8) -> u8
+pub fn subject_of(terms: &[u8], kinds: usize, starts: &[usize], schema: usize) -> u8
     requires { ⌜ Placed (now terms) kinds (now starts) ⌝ }
     ensures { λ r. ⌜ r ≡ schemaAt (termsOf (now (terms .entry))) schema .subject ⌝ }
 {
-    let create = 3 * (schema as usize);
-    if starts.len() <= create {
+    if starts.len() / 3 <= schema {
         return 0;
     }
-    let at = starts[create];
-    terms[at - 3]
+    terms[head_at(starts, schema) + 1]
 }
 
 // The kind of the records by which an event happens.
@@ -96,7 +111,7 @@ pub fn kind_of(terms: &[u8], kinds: usize, starts: &[usize], event: Event) -> u8
 {
     match event {
         Event::Kind(k) => k,
-        Event::StageOf(_, schema) => subject_of(terms, kinds, starts, schema),
+        Event::StageOf(_, schema) => subject_of(terms, kinds, starts, schema as usize),
     }
 }
 
@@ -180,38 +195,43 @@ fn leaf_has(terms: &[u8], kinds: usize, starts: &[usize], question: Question, at
     }
 }
 
-// How many bytes an item of an expression has.
-fn item_length(item: u8) -> usize
-    ensures { λ r. ⌜ r ≡ itemLength item ⌝ }
+// A question about some leaf of the expression of at most so many items at a place.
+fn expression_has(
+    terms: &[u8],
+    kinds: usize,
+    starts: &[usize],
+    question: Question,
+    at: usize,
+    items: usize,
+) -> Walked
+    requires { ⌜ Placed (now terms) kinds (now starts) × StandsExpr (now terms) at items ⌝ }
+    ensures { λ r. ⌜ Walks (now (terms .entry)) question at items r ⌝ }
 {
-    match item {
-        LEAF => 17,
-        _ => 1,
+    match terms[at] {
+        LEAF => {
+            if leaf_has(terms, kinds, starts, question, at + 1) {
+                return Walked::Found;
+            }
+            Walked::To(at + 1 + LEAF_BODY, items - 1)
+        }
+        AND | OR | EXCEPT => {
+            let Walked::To(middle, left) = expression_has(
+                terms,
+                kinds,
+                starts,
+                question,
+                at + 1,
+                items - 1,
+            ) else {
+                return Walked::Found;
+            };
+            expression_has(terms, kinds, starts, question, middle, left)
+        }
+        _ => Walked::To(at + 1, items - 1),
     }
 }
 
-// How many expressions follow an item.
-fn operands(item: u8) -> usize
-    ensures { λ r. ⌜ r ≡ operandsOf item ⌝ }
-{
-    match item {
-        AND | OR | EXCEPT => 2,
-        _ => 0,
-    }
-}
-
-// A question about the item at a place, if it is a leaf.
-fn item_has(terms: &[u8], kinds: usize, starts: &[usize], question: Question, at: usize) -> bool
-    requires { ⌜ Placed (now terms) kinds (now starts) × (at < length (now terms)) × (byteAt (now terms) at ≡ 3 → at + 17 ≤ length (now terms)) ⌝ }
-    ensures { λ r. ⌜ r ≡ itemHas (now (terms .entry)) question at ⌝ }
-{
-    if terms[at] != LEAF {
-        return false;
-    }
-    leaf_has(terms, kinds, starts, question, at + 1)
-}
-
-// A question about some leaf of the clause at a place. The items are walked in file order; pending counts the expressions still to come.
+// A question about some leaf of the clause at a place.
 fn clause_has(
     terms: &[u8],
     kinds: usize,
@@ -222,17 +242,10 @@ fn clause_has(
     requires { ⌜ Placed (now terms) kinds (now starts) × ((x : Expr (List ℕ)) × ClauseAt (now terms) start x) ⌝ }
     ensures { λ r. ⌜ ((x : Expr (List ℕ)) → ClauseAt (now (terms .entry)) start x → r ≡ clauseHas (now (terms .entry)) question x) ⌝ }
 {
-    let mut at = start;
-    let mut pending: usize = 1;
-    while 0 < pending {
-        if item_has(terms, kinds, starts, question, at) {
-            return true;
-        }
-        let item = terms[at];
-        pending = pending - 1 + operands(item);
-        at += item_length(item);
+    match expression_has(terms, kinds, starts, question, start, EXPRESSION_LIMIT) {
+        Walked::Found => true,
+        Walked::To(_, _) => false,
     }
-    false
 }
 
 // A question about some leaf of each clause of the schema with a number.
@@ -262,8 +275,7 @@ fn schema_wrong(terms: &[u8], kinds: usize, starts: &[usize], n: usize) -> bool
     requires { ⌜ Placed (now terms) kinds (now starts) × (3 * n < length (now starts)) ⌝ }
     ensures { λ r. ⌜ r ≡ schemaHas (now (terms .entry)) Fault.Field n ⌝ }
 {
-    let create = starts[3 * n];
-    if head_wrong(terms, kinds, create - 4) {
+    if head_wrong(terms, kinds, head_at(starts, n)) {
         return true;
     }
     let question = Question::OutOfRange;
@@ -286,8 +298,7 @@ fn schema_unshared(terms: &[u8], kinds: usize, starts: &[usize], n: usize) -> bo
     requires { ⌜ Placed (now terms) kinds (now starts) × (3 * n < length (now starts)) ⌝ }
     ensures { λ r. ⌜ r ≡ schemaHas (now (terms .entry)) Fault.Unshared n ⌝ }
 {
-    let create = starts[3 * n];
-    let subject = terms[create - 3];
+    let subject = subject_of(terms, kinds, starts, n);
     let question = Question::SomeEvent(EventQuestion::SharesNone(subject));
     clauses_have(terms, kinds, starts, question, question, question, n)
 }
@@ -346,21 +357,21 @@ fn field_wrong(terms: &[u8], kinds: usize, starts: &[usize]) -> bool
 }
 
 // Refusal 2: no kind, no schema, or bytes left unread.
-fn breaks_grammar(terms: &[u8], kinds: usize, schemas: usize, rest: usize) -> bool
-    requires { ⌜ (kinds ≡ length (fileOf (now terms) .kinds)) × (schemas ≡ length (fileOf (now terms) .schemas)) × (drop rest (now terms) ≡ fileOf (now terms) .rest) ⌝ }
+fn breaks_grammar(terms: &[u8], layout: Layout) -> bool
+    requires { ⌜ LaidOut (now terms) layout ⌝ }
     ensures { λ r. ⌜ r ≡ breaksGrammar (fileOf (now (terms .entry))) ⌝ }
 {
-    if kinds == 0 {
+    if layout.kinds == 0 {
         return true;
     }
-    if schemas == 0 {
+    if layout.schemas == 0 {
         return true;
     }
-    rest < terms.len()
+    layout.rest < terms.len()
 }
 
 // Call 1, under a layout of the terms: callers that go on with the layout read it once.
-pub fn check_layout(terms: &[u8], layout: Layout) -> Checked
+pub fn check_terms_under(terms: &[u8], layout: Layout) -> Checked
     requires { ⌜ LaidOut (now terms) layout ⌝ }
     ensures { λ r. ⌜ checkedAnswer r ≡ checkTerms (now (terms .entry)) ⌝ }
 {
@@ -371,7 +382,7 @@ pub fn check_layout(terms: &[u8], layout: Layout) -> Checked
     if TERMS_LIMIT < terms.len() {
         return Checked::Refused(Refusal::TermsTooLong);
     }
-    if breaks_grammar(terms, kinds, layout.schemas, layout.rest) {
+    if breaks_grammar(terms, layout) {
         return Checked::Refused(Refusal::BrokenGrammar);
     }
     if field_wrong(terms, kinds, starts) {
@@ -390,5 +401,5 @@ pub fn check_layout(terms: &[u8], layout: Layout) -> Checked
 pub fn check_terms(terms: &[u8]) -> Checked
     ensures { λ r. ⌜ checkedAnswer r ≡ checkTerms (now (terms .entry)) ⌝ }
 {
-    check_layout(terms, read_layout(terms))
+    check_terms_under(terms, read_layout(terms))
 }

@@ -14,4 +14,4 @@ returns-2 c = rw (c .before .before .event2 .given .1, c .subject-of .ensures)
 
 pub kind-of-spec : {M : Type 1} → statement M
 kind-of-spec =
-    tie.close (tie.spec (λ c. search needs) (λ c. search needs) (λ c κs. search needs) returns returns-2)
+    tie.close (tie.spec (λ c. search needs) (λ c. search needs) (λ c. search needs) (λ c κs. search needs) returns returns-2)

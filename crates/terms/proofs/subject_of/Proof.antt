@@ -1,33 +1,35 @@
--- `subject_of` meets its contract: a byte of the head right before the create clause, or 0 past the last schema. Assumes nothing.
+-- `subject_of` meets its contract: the second byte of the head, or 0 past the last schema. Assumes nothing.
+use Prim.Native.Nat.{_<_}
 use native.Mathlib.Omega.{arith}
 use mathlib.Core.Path.{sym}
-use borrow.Author.Needs.{needs}
+use lib.ListN.{length}
 use Rattle.model.specs.Bytes.{byteAt}
+use Rattle.model.specs.Grammar.{fileOf}
 use Rattle.terms.proofs.Steps.{subject-here, subject-past}
 use Rattle.terms.proofs.subject_of.Statement.{statement}
 use Rattle.terms.proofs.subject_of.Tie as tie
 
 returns : tie.Need-returns
-returns c = let a = c .before .args in sym (subject-past (a .terms .now) (a .schema) (omega arith))
+returns c = let a = c .before .before .before .args in sym (subject-past (a .terms .now) (a .schema) (omega arith))
 
-sub-result : tie.Need-sub-result
-sub-result c = let b = c .before .before in omega (arith, b .pre .2 (b .args .schema) (omega arith) .1 .head-inside)
+-- the schema is there
+there : (c : tie.Else1) → let a = c .before .before .before .args in a .schema < length (fileOf (a .terms .now) .schemas)
+there c = omega arith
+
+head-at-requires : tie.Need-head-at-requires
+head-at-requires c κs = let b = c .before .before .before in (omega (arith, there c), b .pre .2 (b .args .schema) (there c) .1 .head-inside .0)
+
+add-result : tie.Need-add-result
+add-result c = let b = c .before .before .before .before in omega (arith, b .pre .2 (b .args .schema) (there (c .before)) .1 .head-inside)
 
 shared-slice-read-result : tie.Need-shared-slice-read-result
-shared-slice-read-result c = let b = c .before .before .before in omega (arith, b .pre .2 (b .args .schema) (omega arith) .1 .head-inside)
+shared-slice-read-result c = let b = c .before .before .before .before .before in omega (arith, b .pre .2 (b .args .schema) (there (c .before .before)) .1 .head-inside)
 
 returns-2 : tie.Need-returns-2
 unfolding byteAt
-returns-2 c = let b = c .before .before .before in let a = b .args in sym (subject-here (a .terms .now) (a .starts .now) (a .schema) (b .pre .2) (omega arith))
+returns-2 c =
+    let b = c .before .before .before .before .before in
+    rw (subject-here (b .args .terms .now) (b .args .starts .now) (b .args .schema) (b .pre .2) (there (c .before .before)), c .before .head-at .ensures)
 
 pub subject-of-spec : {M : Type 1} → statement M
-subject-of-spec =
-    tie.close
-    (tie.spec
-    (λ c. search needs)
-    returns
-    (λ c. search needs)
-    (λ c. search needs)
-    sub-result
-    shared-slice-read-result
-    returns-2)
+subject-of-spec = tie.close (tie.spec returns head-at-requires add-result shared-slice-read-result returns-2)

@@ -1,4 +1,4 @@
--- `check_layout` meets its contract: the refusals in the order of the table. Assumes nothing.
+-- `check_terms_under` meets its contract: the refusals in the order of the table. Assumes nothing.
 use Prim.Native.Nat.{_*_}
 use native.Mathlib.Omega.{arith}
 use mathlib.Core.Path.{_≡_, sym, _∙_}
@@ -12,8 +12,8 @@ use Rattle.model.specs.Fields.{fieldWrong, citationWrong}
 use Rattle.model.specs.Answers.{checkedAnswer}
 use Rattle.model.specs.Calls.{refusal, termsLimit, termsOf, termsTooLong, termsChecks, checked, checkTerms}
 use Rattle.terms.proofs.Faults.{citation-faults, unshared-faults, layout-few, layout-placed}
-use Rattle.terms.proofs.check_layout.Statement.{statement}
-use Rattle.terms.proofs.check_layout.Tie as tie
+use Rattle.terms.proofs.check_terms_under.Statement.{statement}
+use Rattle.terms.proofs.check_terms_under.Tie as tie
 
 -- the array that holds the starts
 long : (c : tie.Start) → length (c .args .layout .starts) ≡ 48
@@ -91,8 +91,8 @@ returns-6 c =
     let e2 = e3 .before .before in
     rw (short (e2 .before .before), kept e2, right e3, low e4, unshared-faults _ ∙ sym (c .before .some-schema-has2 .ensures) ∙ c .if5 .left)
 
-pub check-layout-spec : {M : Type 1} → statement M
-check-layout-spec =
+pub check-terms-under-spec : {M : Type 1} → statement M
+check-terms-under-spec =
     tie.close
     (tie.spec
     mul-clauses
