@@ -59,12 +59,6 @@ unfolding flatMap flatten
 flatten-map f [] = refl
 flatten-map f (x ∷ l) = ap (λ t. f x ++ t) (flatten-map f l)
 
--- What elements give, of two lists one behind the other.
-pub flatMap-append : {A B : Type 0} (f : A → List B) (a b : List A) → flatMap f (a ++ b) ≡ flatMap f a ++ flatMap f b
-unfolding flatMap
-flatMap-append f [] b = refl
-flatMap-append f (x ∷ a) b = rw (flatMap-append f a b) (sym (append-assoc (f x) (flatMap f a) (flatMap f b)))
-
 -- Lists one after another, each as it is.
 pub flatten-each : {A : Type 0} (l : List (List A)) → flatMap (λ c. c) l ≡ flatten l
 unfolding flatMap flatten

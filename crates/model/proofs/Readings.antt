@@ -625,9 +625,6 @@ appendCases =
     ∷ case (append valueWidth good (sAt 3 ++ rest 9) 9 (event 0 3 (8 ∷ []))) (gives 0 18 (sAt 3 ++ event 0 3 (8 ∷ [])))
     ∷ case (append valueWidth good (sAt 3 ++ rest 8) 9 (event 0 3 (8 ∷ []))) (gives 14 0 (sAt 3 ++ rest 8))
     ∷ case (append valueWidth good (sAt 3) 9 (sAt 3)) (gives 13 0 (sAt 3))
-    -- 14 by the limit, at widths at which one record is so long: 32,768 bytes fit, 32,769 do not, though the buffer has room
-    ∷ case (told (append 32763 good (replicate 32800 0) 0 (replicate 32768 0) .answer)) (gives 0 32768 [])
-    ∷ case (told (append 32764 good (replicate 32800 0) 0 (replicate 32769 0) .answer)) (gives 14 0 [])
     -- C4: the faults of terms and log come before the event's
     ∷ case (append valueWidth good (sAt 3 ++ eAt 2 ++ rest 9) 22 []) (gives 8 0 (sAt 3 ++ eAt 2 ++ rest 9))
     ∷ case (append valueWidth good (sAt 3) 10 []) (gives 6 0 (sAt 3))

@@ -1,8 +1,4 @@
 // Call 1, check terms: the grammar, then fields, citations and shared attributes, each over the whole file.
-use fields::head_wrong;
-use fields::kind_wrong;
-use fields::leaf_at;
-use fields::leaf_wrong;
 use fields::mask_of;
 use grammar::AND;
 use grammar::EXCEPT;
@@ -11,7 +7,6 @@ use grammar::LEAF;
 use grammar::LEAF_BODY;
 use grammar::Layout;
 use grammar::OR;
-use grammar::read_layout;
 use model::Bound;
 use model::Checked;
 use model::Event;
@@ -171,7 +166,7 @@ fn some_event_has(
     requires { ⌜ Placed (now terms) kinds (now starts) × (at + 16 ≤ length (now terms)) ⌝ }
     ensures { λ r. ⌜ r ≡ askedOfLeaf (termsOf (now (terms .entry))) (Question.SomeEvent question) (take 16 (drop at (now (terms .entry)))) ⌝ }
 {
-    let leaf = leaf_at(terms, at);
+    let leaf = fields::leaf_at(terms, at);
     let event = leaf.event;
     let lower = leaf.lower;
     let upper = leaf.upper;
@@ -190,7 +185,7 @@ fn leaf_has(terms: &[u8], kinds: usize, starts: &[usize], question: Question, at
     ensures { λ r. ⌜ r ≡ askedOfLeaf (termsOf (now (terms .entry))) question (take 16 (drop at (now (terms .entry)))) ⌝ }
 {
     match question {
-        Question::OutOfRange => leaf_wrong(terms, kinds, at),
+        Question::OutOfRange => fields::leaf_wrong(terms, kinds, at),
         Question::SomeEvent(asked) => some_event_has(terms, kinds, starts, asked, at),
     }
 }
@@ -275,7 +270,7 @@ fn schema_wrong(terms: &[u8], kinds: usize, starts: &[usize], n: usize) -> bool
     requires { ⌜ Placed (now terms) kinds (now starts) × (3 * n < length (now starts)) ⌝ }
     ensures { λ r. ⌜ r ≡ schemaHas (now (terms .entry)) Fault.Field n ⌝ }
 {
-    if head_wrong(terms, kinds, head_at(starts, n)) {
+    if fields::head_wrong(terms, kinds, head_at(starts, n)) {
         return true;
     }
     let question = Question::OutOfRange;
@@ -337,7 +332,7 @@ fn some_kind_wrong(terms: &[u8], kinds: usize) -> bool
 {
     let mut i: usize = 0;
     while i < kinds {
-        if kind_wrong(terms, i) {
+        if fields::kind_wrong(terms, i) {
             return true;
         }
         i += 1;
@@ -401,5 +396,5 @@ pub fn check_terms_under(terms: &[u8], layout: Layout) -> Checked
 pub fn check_terms(terms: &[u8]) -> Checked
     ensures { λ r. ⌜ checkedAnswer r ≡ checkTerms (now (terms .entry)) ⌝ }
 {
-    check_terms_under(terms, read_layout(terms))
+    check_terms_under(terms, grammar::read_layout(terms))
 }
