@@ -1,20 +1,30 @@
 // What the bodies of items hold: kinds, events, bounds and leaves at a place of terms, and refusal 3 at each of them.
+use grammar::ALWAYS;
+use grammar::AND;
+use grammar::EXCEPT;
+use grammar::ExpressionReading;
+use grammar::LEAF;
+use grammar::LEAF_BODY;
+use grammar::OR;
+use grammar::byte_at;
+use grammar::read_expression;
 use grammar::u16_at;
 use grammar::u32_at;
 use model::Bound;
 use model::Event;
 use model::Leaf;
+use model::NormType;
 use model::Stage;
 use model::StageForm;
 ghost use mathlib.Core.Path.{_≡_};
-ghost use Prim.Native.Nat.{_+_, _*_, _≤_};
+ghost use Prim.Native.Nat.{_+_, _*_, _<_, _≤_};
 ghost use lib.ListN.{length, take, drop};
 ghost use Rattle.model.specs.Terms.{Terms, kindAt};
 ghost use Rattle.model.specs.Log.{carries};
 ghost use Rattle.model.specs.Grammar.{fileOf};
-ghost use Rattle.model.specs.Fields.{eventOf, boundOf, neither, leafFrom, kindWrong, headWrong, eventWrong, boundWrong, leafWrong};
+ghost use Rattle.model.specs.Fields.{normTypeOf, eventOf, boundOf, neither, leafFrom, kindWrong, headWrong, eventWrong, boundWrong, leafWrong};
 ghost use Rattle.model.specs.Calls.{termsOf};
-ghost use Rattle.fields.specs.Decoded.{eventIn, boundIn};
+ghost use Rattle.fields.specs.Decoded.{eventIn, boundIn, OperandsAt, ExpressionAt};
 
 // The attributes that a mask has room for.
 pub const ATTRIBUTES: u8 = 16;
@@ -34,8 +44,14 @@ pub const OPEN: u8 = 3;
 // The form of an event that is a kind.
 pub const KIND_FORM: u8 = 0;
 
-// The last norm type; the first is 1.
-pub const LAST_NORM_TYPE: u8 = 4;
+// The norm types.
+pub const COMMITMENT: u8 = 1;
+
+pub const AUTHORIZATION: u8 = 2;
+
+pub const PROHIBITION: u8 = 3;
+
+pub const POWER: u8 = 4;
 
 // What a form and a number name: an event, or none.
 pub enum EventForm {
@@ -47,6 +63,23 @@ pub enum EventForm {
 pub enum BoundForm {
     Is(Bound),
     NotABound,
+}
+
+// What an expression at a place is: a leaf; a connective, with the place of its second operand and how many items that one may have; always;
+// or nothing that can be read.
+pub enum Expression {
+    Leaf(Leaf),
+    And(usize, usize),
+    Or(usize, usize),
+    Except(usize, usize),
+    Always,
+    Nothing,
+}
+
+// Where the second operand of a connective starts, and how many items it may have; or nothing, where one of the two can't be read.
+enum Operands {
+    Second(usize, usize),
+    Nothing,
 }
 
 // Whether a mask has an attribute.
@@ -154,6 +187,69 @@ pub fn leaf_at(terms: &[u8], at: usize) -> Leaf
     }
 }
 
+// The operands of the connective at a place: both are read.
+fn read_operands(terms: &[u8], at: usize, items: usize) -> Operands
+    requires { ⌜ (at < length (now terms)) × (0 < items) ⌝ }
+    ensures { λ r. ⌜ OperandsAt (now (terms .entry)) at items r ⌝ }
+{
+    let ExpressionReading::To(second, left) = read_expression(terms, at + 1, items - 1) else {
+        return Operands::Nothing;
+    };
+    let ExpressionReading::To(_, _) = read_expression(terms, second, left) else {
+        return Operands::Nothing;
+    };
+    Operands::Second(second, left)
+}
+
+// The expression of at most so many items at a place, by its item byte.
+pub fn expression_at(terms: &[u8], at: usize, items: usize) -> Expression
+    ensures { λ r. ⌜ ExpressionAt (now (terms .entry)) at items r ⌝ }
+{
+    if items == 0 {
+        return Expression::Nothing;
+    }
+    match byte_at(terms, at) {
+        LEAF => {
+            if terms.len() - at <= LEAF_BODY {
+                return Expression::Nothing;
+            }
+            Expression::Leaf(leaf_at(terms, at + 1))
+        }
+        AND => {
+            let Operands::Second(second, left) = read_operands(terms, at, items) else {
+                return Expression::Nothing;
+            };
+            Expression::And(second, left)
+        }
+        OR => {
+            let Operands::Second(second, left) = read_operands(terms, at, items) else {
+                return Expression::Nothing;
+            };
+            Expression::Or(second, left)
+        }
+        EXCEPT => {
+            let Operands::Second(second, left) = read_operands(terms, at, items) else {
+                return Expression::Nothing;
+            };
+            Expression::Except(second, left)
+        }
+        ALWAYS => Expression::Always,
+        _ => Expression::Nothing,
+    }
+}
+
+// The norm type that a byte names; one that names none, which refusal 3 turns away, is read as a power.
+pub fn norm_type_of(byte: u8) -> NormType
+    ensures { λ r. ⌜ r ≡ normTypeOf byte ⌝ }
+{
+    match byte {
+        COMMITMENT => NormType::Commitment,
+        AUTHORIZATION => NormType::Authorization,
+        PROHIBITION => NormType::Prohibition,
+        _ => NormType::Power,
+    }
+}
+
 // Refusal 3 at the item 01 with a number.
 pub fn kind_wrong(terms: &[u8], i: usize) -> bool
     requires { ⌜ 5 * i + 5 ≤ length (now terms) ⌝ }
@@ -179,7 +275,7 @@ pub fn head_wrong(terms: &[u8], kinds: usize, at: usize) -> bool
     if norm_type == 0 {
         return true;
     }
-    if LAST_NORM_TYPE < norm_type {
+    if POWER < norm_type {
         return true;
     }
     let subject = terms[at + 1];

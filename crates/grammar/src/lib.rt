@@ -39,7 +39,7 @@ pub enum Reading {
 }
 
 // An expression read at a place: the place behind it, and how many items are left of those that it may have; or nothing.
-enum ExpressionReading {
+pub enum ExpressionReading {
     To(usize, usize),
     Nothing,
 }
@@ -116,7 +116,7 @@ fn read_item(s: &[u8], at: usize, kind: u8, body: usize) -> Reading
 }
 
 // An expression of at most so many items: a leaf, always, or a connective and its two operands.
-fn read_expression(s: &[u8], at: usize, items: usize) -> ExpressionReading
+pub fn read_expression(s: &[u8], at: usize, items: usize) -> ExpressionReading
     ensures { λ r. ⌜ ((n : ℕ) → items ≤ n → FoundExpr n items (now (s .entry)) at r) ⌝ }
 {
     if items == 0 {

@@ -5,10 +5,11 @@ use native.Mathlib.Omega.{arith}
 use mathlib.Core.Path.{_≡_}
 use mathlib.Core.List.{List, flatMap}
 use lib.ListN.{take}
+use Rattle.model.specs.declared.Row.{Row}
 use Rattle.model.specs.Lists.{All}
 use Rattle.model.specs.Time.{lastMinute}
 use Rattle.model.specs.Log.{Record}
-use Rattle.model.specs.Rows.{Row, timedRows, reportRows}
+use Rattle.model.specs.Rows.{timedRows, reportRows}
 use Rattle.model.specs.Records.{stampLimit, recordFrom, readLog, recordsIn, recordBytes}
 use Rattle.model.specs.Calls.{termsOf, logOf, rowsOf}
 use Rattle.model.proofs.ListLaws.{all-map}

@@ -10,10 +10,11 @@ use Rattle.model.specs.declared.Stage.{Stage}
 use Rattle.model.specs.declared.Stage.the-variants.{Created, Detached, Expired, Discharged, Violated}
 use Rattle.model.specs.declared.NormType.{NormType}
 use Rattle.model.specs.declared.Leaf.{Leaf}
+use Rattle.model.specs.declared.Times.{Times}
 use Rattle.model.specs.Time.{laterOf}
 use Rattle.model.specs.Terms.{Terms, Expr, schemaAt, rank}
 use Rattle.model.specs.Log.{Record, Log}
-use Rattle.model.specs.Meaning.{StageTimes, cited, Times, timesOf, stageFrom, stageStep, timesWithin, stageTime}
+use Rattle.model.specs.Meaning.{StageTimes, cited, timesOf, stageFrom, stageStep, timesWithin, stageTime}
 use Rattle.model.proofs.TimeLaws.{Side, early, late, side}
 
 -- a clause of rank k sees a stage of smaller rank as it is
@@ -25,6 +26,15 @@ cited-below k times s j r h = rw (lt-ltb (rank s j) k h, cited)
 pub cited-above : (k : ℕ) (times : StageTimes) (s : Stage) (j : ℕ) (r : Record) → k ≤ rank s j → cited k times s j r ≡ Never
 unfolding cited
 cited-above k times s j r h = rw (le-ltb (rank s j) k h, cited)
+
+-- a stage ranks no lower than its create clause
+pub rank-least : (s : Stage) (j : ℕ) → 3 * j ≤ rank s j
+unfolding rank
+rank-least Created j = omega arith
+rank-least Detached j = omega arith
+rank-least Expired j = omega arith
+rank-least Discharged j = omega arith
+rank-least Violated j = omega arith
 
 -- two families of stage times are the same on ranks below k
 abbrev pub SameBelow : ℕ → StageTimes → StageTimes → Type 0

@@ -17,11 +17,14 @@ use Rattle.model.specs.declared.Bound.{Bound}
 use Rattle.model.specs.declared.Bound.the-variants.{Plain, Plus, Minus, Open}
 use Rattle.model.specs.declared.Leaf.{Leaf}
 use Rattle.model.specs.declared.Time.the-variants.{Never}
+use Rattle.model.specs.declared.Edge.{Edge}
+use Rattle.model.specs.declared.Edge.the-variants.{Endless}
+use Rattle.model.specs.declared.Times.{Times}
 use Rattle.model.specs.Time.{earlierOf}
 use Rattle.model.specs.Stages.{stageNumber}
 use Rattle.model.specs.Terms.{Terms, leaf}
 use Rattle.model.specs.Log.{Record, Log}
-use Rattle.model.specs.Meaning.{StageTimes, earliest, Edge, endless, fromEdge, reached, edgeOf, Times, firstWithin, known, leafOccurrence, failureAt, leafFailure, timesOf}
+use Rattle.model.specs.Meaning.{StageTimes, earliest, fromEdge, reached, edgeOf, firstWithin, known, leafOccurrence, failureAt, leafFailure, timesOf}
 use Rattle.model.specs.Bytes.{bytesOf, byteAt, numberAt}
 use Rattle.model.specs.Fields.{stageEvent, eventOf, boundOf, leafOf, neither, notZero, offsetLimit, eventWrong, boundWrong, leafWrong}
 use Rattle.model.proofs.BoolLaws.{or-false}
@@ -208,7 +211,7 @@ Silent x = (x .occurs ≡ Never) × (x .fails ≡ Never)
 
 -- an open lower bound lets nothing in
 none-within : (times : StageTimes) (terms : Terms) (log : Log) (subject : Record) (u : Edge) (e : Event)
-    → firstWithin times terms log subject endless u e ≡ Never
+    → firstWithin times terms log subject Endless u e ≡ Never
 unfolding firstWithin earliest earlierOf fromEdge
 none-within times terms [] subject u e = refl
 none-within times terms (r ∷ log) subject u e = none-within times terms log subject u e

@@ -15,13 +15,16 @@ use Rattle.model.specs.declared.Event.the-variants.{Kind, StageOf}
 use Rattle.model.specs.declared.Bound.{Bound}
 use Rattle.model.specs.declared.Bound.the-variants.{Plain, Plus, Minus, Open}
 use Rattle.model.specs.declared.Leaf.{Leaf}
+use Rattle.model.specs.declared.Edge.{Edge}
+use Rattle.model.specs.declared.Edge.the-variants.{Minute, Endless}
+use Rattle.model.specs.declared.Row.{Row}
 use Rattle.model.specs.Lists.{All}
 use Rattle.model.specs.Time.{laterOf, before, cut, lastMinute}
 use Rattle.model.specs.Stages.{stages}
 use Rattle.model.specs.Terms.{Terms, Expr, leaf, and, or, except, always, kindOf, rank}
 use Rattle.model.specs.Log.{Record, Log, correlate}
-use Rattle.model.specs.Meaning.{StageTimes, cited, earliest, Edge, edge, endless, reached, timeBy, happening, first, firstWithin, known, leafOccurrence, failureAt, leafFailure, timesOf, stageStep, timesWithin, stageTime}
-use Rattle.model.specs.Rows.{Row, rowOf, rowAt, isSubject, subjectRows, timedRows}
+use Rattle.model.specs.Meaning.{StageTimes, cited, earliest, reached, timeBy, happening, first, firstWithin, known, leafOccurrence, failureAt, leafFailure, timesOf, stageStep, timesWithin, stageTime}
+use Rattle.model.specs.Rows.{rowOf, rowAt, isSubject, subjectRows, timedRows}
 use Rattle.model.proofs.TimeLaws.{before-lt, before-le, Side, early, late, side, before-later, before-earlier, before-onceKnown, before-ifNever, before-never}
 use Rattle.model.proofs.ListLaws.{all-flatMap, all-each}
 use Rattle.model.proofs.RelatedTimes.{Kept, Related, and-related, or-related, except-related, stage-related}
@@ -54,12 +57,12 @@ module _ (m : ℕ) (past : lastMinute < m) where
 
   reached-fits : (u : Edge) → before m (reached u) ≡ reached u
   unfolding reached cut
-  reached-fits (edge u) = go (leb u lastMinute) refl
+  reached-fits (Minute u) = go (leb u lastMinute) refl
     where
       go : (b : Bool) → leb u lastMinute ≡ b → before m (cond b (At u) Never) ≡ cond b (At u) Never
       go true e = let h : u ≤ lastMinute = leb-true u lastMinute e in before-lt m u (omega arith)
       go false e = before-never m
-  reached-fits endless = before-never m
+  reached-fits Endless = before-never m
 
   cited-fits : (times : StageTimes) → StagesFit m times → (k : ℕ) → StagesFit m (cited k times)
   unfolding cited

@@ -12,11 +12,12 @@ use mathlib.Core.List.{List, [], _∷_, _++_, map, flatMap, flatten, append-nil}
 use mathlib.Core.Option.{Option, none, some}
 use lib.ListN.{length, take, length-map}
 use borrow.Author.Tests.{le-ltb}
+use Rattle.model.specs.declared.Row.{Row}
 use Rattle.model.specs.Lists.{All, isEmpty}
 use Rattle.model.specs.Time.{lastMinute}
 use Rattle.model.specs.Terms.{Terms}
 use Rattle.model.specs.Log.{Record}
-use Rattle.model.specs.Rows.{Row, strike}
+use Rattle.model.specs.Rows.{strike}
 use Rattle.model.specs.Records.{stampIn, readRecord, recordFrom, readLog, recordsIn, rowBytes, timeIn}
 use Rattle.model.specs.Calls.{termsOf, logOf, notOneRecord, rowsOf, append, report}
 use Rattle.model.specs.Lasting.{Accepted, HeldLog, usedAfter, afterAppend, afterAppends, NoneBefore, reportOn, rowsGiven, rowsLeft, ReportLasts, bytesBefore, AlikeReportSame, Lasting}

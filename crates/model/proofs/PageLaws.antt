@@ -9,12 +9,13 @@ use lib.Seq.{take-at, drop-at}
 use Rattle.model.specs.declared.Stage.{Stage}
 use Rattle.model.specs.declared.Stage.the-variants.{Created, Detached, Expired, Discharged, Violated}
 use Rattle.model.specs.declared.StageForm.the-variants.{Is}
+use Rattle.model.specs.declared.Row.{Row}
 use Rattle.model.specs.Lists.{All}
 use Rattle.model.specs.Time.{lastMinute}
 use Rattle.model.specs.Stages.{stageNumber, stageOf}
 use Rattle.model.specs.Terms.{Terms}
 use Rattle.model.specs.Log.{Record, Log, valueOf, keyOf}
-use Rattle.model.specs.Rows.{Row, rowOf, reportRows}
+use Rattle.model.specs.Rows.{rowOf, reportRows}
 use Rattle.model.specs.Bytes.{bytesOf, numberOf, pieces}
 use Rattle.model.specs.Records.{rowLength, rowBytes, WholeRecord}
 use Rattle.model.specs.Calls.{termsOf, logOf, rowsOf, Outcome, report}

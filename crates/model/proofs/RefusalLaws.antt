@@ -10,8 +10,8 @@ use lib.Dec.{ltb}
 use lib.ListN.{take}
 use borrow.Author.Tests.{ltb-true}
 use Rattle.model.specs.declared.Entries.{Entries}
+use Rattle.model.specs.declared.Row.{Row}
 use Rattle.model.specs.Lists.{All}
-use Rattle.model.specs.Rows.{Row}
 use Rattle.model.specs.Grammar.{fileOf, breaksGrammar}
 use Rattle.model.specs.Fields.{fieldWrong, citationWrong, unsharedEvent}
 use Rattle.model.specs.Records.{recordFrom, stampsFall, keyRepeats}

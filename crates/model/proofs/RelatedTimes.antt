@@ -5,8 +5,9 @@ use Rattle.model.specs.declared.Stage.{Stage}
 use Rattle.model.specs.declared.Stage.the-variants.{Created, Detached, Expired, Discharged, Violated}
 use Rattle.model.specs.declared.NormType.{NormType}
 use Rattle.model.specs.declared.NormType.the-variants.{Commitment, Authorization, Prohibition, Power}
+use Rattle.model.specs.declared.Times.{Times}
 use Rattle.model.specs.Time.{laterOf, earlierOf}
-use Rattle.model.specs.Meaning.{Times, andOf, orOf, exceptOf, stageFrom}
+use Rattle.model.specs.Meaning.{andOf, orOf, exceptOf, stageFrom}
 
 -- what a relation of times has to keep
 pub record Kept (R : Time → Time → Type 0) : Type 0 where

@@ -7,8 +7,8 @@ use mathlib.Core.Path.{_≡_, refl}
 use mathlib.Core.List.{List, [], _∷_, _++_, map, flatMap, append-assoc}
 use lib.ListN.{length, length-append}
 use lib.Seq.{take-at, drop-at, take-all}
+use Rattle.model.specs.declared.Row.{Row}
 use Rattle.model.specs.Stages.{stageNumber}
-use Rattle.model.specs.Rows.{Row}
 use Rattle.model.specs.Bytes.{bytesOf, numberAt, pieces}
 use Rattle.model.specs.Records.{rowLength, rowBytes, timeIn}
 use Rattle.model.proofs.NumberLaws.{bytes-length, bytes-number}

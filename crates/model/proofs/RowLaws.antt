@@ -12,13 +12,14 @@ use borrow.Author.Tests.{eqb-true, eq-eqb}
 use Rattle.model.specs.declared.Time.{Time}
 use Rattle.model.specs.declared.Time.the-variants.{At, Never}
 use Rattle.model.specs.declared.Stage.{Stage}
+use Rattle.model.specs.declared.Row.{Row}
 use Rattle.model.specs.Lists.{numbersFrom, anyOf}
 use Rattle.model.specs.Time.{before}
 use Rattle.model.specs.Stages.{stages}
 use Rattle.model.specs.Terms.{Terms, schemaAt}
 use Rattle.model.specs.Log.{Record, Log, keyOf, hasKey, sameKey}
 use Rattle.model.specs.Meaning.{stageTime}
-use Rattle.model.specs.Rows.{Row, rowOf, rowAt, isSubject, subjectRows, timedRows, strike, reportRows}
+use Rattle.model.specs.Rows.{rowOf, rowAt, isSubject, subjectRows, timedRows, strike, reportRows}
 use Rattle.model.specs.Records.{keyRepeats}
 use Rattle.model.specs.Calls.{rowsOf, report}
 use Rattle.model.specs.Lasting.{Accepted}

@@ -6,11 +6,12 @@ use mathlib.Core.Bool.{Bool, true, false}
 use mathlib.Core.List.{List, [], _∷_, flatMap}
 use lib.ListN.{length}
 use Rattle.model.specs.declared.Stage.{Stage}
+use Rattle.model.specs.declared.Row.{Row}
 use Rattle.model.specs.Lists.{numbersFrom}
 use Rattle.model.specs.Stages.{stages}
 use Rattle.model.specs.Terms.{Terms}
 use Rattle.model.specs.Log.{Record, Log}
-use Rattle.model.specs.Rows.{Row, rowAt, isSubject, timedRows, strike, reportRows}
+use Rattle.model.specs.Rows.{rowAt, isSubject, timedRows, strike, reportRows}
 use Rattle.model.proofs.StrikeLaws.{strike-strike, flatMap-strike}
 use Rattle.model.proofs.SameBefore.{recordsBefore, time-same, time-late}
 use Rattle.model.proofs.RowLaws.{rowsAt, subjectRowsAt, report-order}

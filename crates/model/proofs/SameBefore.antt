@@ -18,11 +18,13 @@ use Rattle.model.specs.declared.Event.the-variants.{Kind, StageOf}
 use Rattle.model.specs.declared.Bound.{Bound}
 use Rattle.model.specs.declared.Bound.the-variants.{Plain, Plus, Minus, Open}
 use Rattle.model.specs.declared.Leaf.{Leaf}
+use Rattle.model.specs.declared.Edge.{Edge}
+use Rattle.model.specs.declared.Edge.the-variants.{Minute, Endless}
 use Rattle.model.specs.Time.{laterOf, earlierOf, before}
 use Rattle.model.specs.Terms.{Terms, Expr, leaf, and, or, except, always, kindOf, schemaAt, rank}
 use Rattle.model.specs.Log.{Record, Log, correlate}
 use Rattle.model.specs.Rows.{strike}
-use Rattle.model.specs.Meaning.{StageTimes, cited, earliest, Edge, edge, endless, fromEdge, beforeEdge, reached, timeBy, happening, first, firstWithin, known, leafOccurrence, failureAt, leafFailure, timesOf, stageStep, timesWithin, stageTime}
+use Rattle.model.specs.Meaning.{StageTimes, cited, earliest, fromEdge, beforeEdge, reached, timeBy, happening, first, firstWithin, known, leafOccurrence, failureAt, leafFailure, timesOf, stageStep, timesWithin, stageTime}
 use Rattle.model.proofs.TimeLaws.{Side, early, late, side, before-le, before-later, before-earlier, before-onceKnown, before-before, before-cut, before-never, before-ifNever, ifNever-never, onceKnown-never}
 use Rattle.model.proofs.RelatedTimes.{Kept, Related, and-related, or-related, except-related, stage-related}
 use Rattle.model.proofs.EdgeLaws.{before-fromEdge, before-beforeEdge, never-within}
@@ -75,23 +77,23 @@ earliest-early m f in-time [] = refl
 earliest-early m f in-time (r ∷ log) = simp (before-earlier, in-time, earliest-early m f in-time log)
 
 within-before : (m : ℕ) (terms : Terms) (subject : Record) (times : StageTimes) (log : Log) (l : Edge) (u : ℕ) → u ≤ m → (e : Event)
-    → before m (firstWithin times terms log subject l (edge u) e) ≡ firstWithin times terms log subject l (edge u) e
+    → before m (firstWithin times terms log subject l (Minute u) e) ≡ firstWithin times terms log subject l (Minute u) e
 unfolding firstWithin beforeEdge
 within-before m terms subject times log l u h e = earliest-early m _ (λ r. simp (before-fromEdge, before-before)) log
 
 -- an edge is at most m, or what comes at it is not before m
 data EdgeSide (m : ℕ) : Edge → Type 0 where
-  near : (u : ℕ) → u ≤ m → EdgeSide m (edge u)
+  near : (u : ℕ) → u ≤ m → EdgeSide m (Minute u)
   far : (u : Edge) → before m (reached u) ≡ Never → EdgeSide m u
 
 edgeSide : (m : ℕ) (u : Edge) → EdgeSide m u
 unfolding reached before
-edgeSide m (edge u) = go (side m u)
+edgeSide m (Minute u) = go (side m u)
   where
-    go : Side m u → EdgeSide m (edge u)
+    go : Side m u → EdgeSide m (Minute u)
     go (early h) = near u (omega arith)
-    go (late h) = far (edge u) (before-cut m u h)
-edgeSide m endless = far endless refl
+    go (late h) = far (Minute u) (before-cut m u h)
+edgeSide m Endless = far Endless refl
 
 -- two times are the same before m
 abbrev pub Same : ℕ → Time → Time → Type 0
@@ -143,8 +145,8 @@ module _ (m : ℕ) (terms : Terms) (subject : Record) (times times′ : StageTim
   leafOccurrence-same x = simp (before-onceKnown, known-same, within-same)
 
   -- before an edge that is not after m the two logs have the very same happenings
-  within-equal : (l : Edge) (u : ℕ) → u ≤ m → (e : Event) → firstWithin times terms log subject l (edge u) e ≡ firstWithin times′ terms log′ subject l (edge u) e
-  within-equal l u h e = sym (within-before m terms subject times log l u h e) ∙ within-same l (edge u) e ∙ within-before m terms subject times′ log′ l u h e
+  within-equal : (l : Edge) (u : ℕ) → u ≤ m → (e : Event) → firstWithin times terms log subject l (Minute u) e ≡ firstWithin times′ terms log′ subject l (Minute u) e
+  within-equal l u h e = sym (within-before m terms subject times log l u h e) ∙ within-same l (Minute u) e ∙ within-before m terms subject times′ log′ l u h e
 
   failureAt-same : (lower : Bound) (u : Edge) (e : Event) → before m (failureAt times terms log subject lower u e) ≡ before m (failureAt times′ terms log′ subject lower u e)
   unfolding failureAt

@@ -15,11 +15,12 @@ use Rattle.model.specs.declared.Time.the-variants.{At, Never}
 use Rattle.model.specs.declared.Stage.{Stage}
 use Rattle.model.specs.declared.Stage.the-variants.{Created, Detached, Expired, Discharged, Violated}
 use Rattle.model.specs.declared.Entries.{Entries}
+use Rattle.model.specs.declared.Row.{Row}
 use Rattle.model.specs.Time.{before}
 use Rattle.model.specs.Terms.{Terms}
 use Rattle.model.specs.Log.{Record, Log, keyOf}
 use Rattle.model.specs.Meaning.{stageTime}
-use Rattle.model.specs.Rows.{Row, rowOf, isSubject, reportRows, find, subjectOf, entriesOf}
+use Rattle.model.specs.Rows.{rowOf, isSubject, reportRows, find, isSought, subjectOf, entriesOf}
 use Rattle.model.specs.Records.{keyRepeats}
 use Rattle.model.specs.Calls.{termsOf, logOf, noSchema, missing, logChecks, standingSubject, keyChecks, refusal, entriesFor, standingAs, standing}
 use Rattle.model.proofs.BoolLaws.{and-true}
@@ -68,7 +69,7 @@ find-some p (q ∷ log) r e = go (p q) refl e (find-some p log r)
 
 -- The subject that is looked for is found in the log.
 pub subject-found : (terms : Terms) (log : Log) (j key m : ℕ) (r : Record) → subjectOf terms log j key m ≡ some r → IsSubjectOf terms log j key m r
-unfolding subjectOf
+unfolding subjectOf isSought
 subject-found terms log j key m r e =
     let found = find-some _ log r e in
     let a = and-true (isSubject terms j r && eqb (keyOf terms r) key) (ltb (r .stamp) m) (found .1) in

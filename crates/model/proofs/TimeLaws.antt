@@ -167,3 +167,17 @@ earlier-right {x = x} {y = y} p q h = rw (p, q) (ap At (omega arith))
 pub earlier-alone : {a b : Time} {x : ℕ} → a ≡ At x → b ≡ Never → At x ≡ earlierOf a b
 unfolding earlierOf
 earlier-alone p q = rw (p, q)
+
+-- of three times it does not matter which two are compared first
+pub earlier-assoc : (a b c : Time) → earlierOf (earlierOf a b) c ≡ earlierOf a (earlierOf b c)
+unfolding earlierOf
+earlier-assoc (At a) (At b) (At c) = ap At (omega arith)
+earlier-assoc (At a) (At b) Never = refl
+earlier-assoc (At a) Never c = refl
+earlier-assoc Never b c = refl
+
+-- none is later than any
+pub earlier-never : (a : Time) → earlierOf a Never ≡ a
+unfolding earlierOf
+earlier-never (At a) = refl
+earlier-never Never = refl

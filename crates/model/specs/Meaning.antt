@@ -15,6 +15,9 @@ use Rattle.model.specs.declared.Event.the-variants.{Kind, StageOf}
 use Rattle.model.specs.declared.Bound.{Bound}
 use Rattle.model.specs.declared.Bound.the-variants.{Plain, Plus, Minus, Open}
 use Rattle.model.specs.declared.Leaf.{Leaf}
+use Rattle.model.specs.declared.Edge.{Edge}
+use Rattle.model.specs.declared.Edge.the-variants.{Minute, Endless}
+use Rattle.model.specs.declared.Times.{Times}
 use Rattle.model.specs.Time.{laterOf, earlierOf, before, from, onceKnown, ifNever, cut}
 use Rattle.model.specs.Terms.{Terms, Expr, leaf, and, or, except, always, kindOf, schemaAt, rank}
 use Rattle.model.specs.Log.{Record, Log, correlate}
@@ -32,32 +35,27 @@ unfoldable pub earliest : (Record → Time) → Log → Time
 earliest f [] = Never
 earliest f (r ∷ log) = earlierOf (f r) (earliest f log)
 
--- a bound's value: a minute, however large, or no end (bounds, last sentence)
-pub data Edge : Type 0 where
-  edge : ℕ → Edge
-  endless : Edge
-
 -- what is at the lower edge or later (leaf occurs)
 unfoldable pub fromEdge : Edge → Time → Time
-fromEdge (edge l) t = from l t
-fromEdge endless t = Never
+fromEdge (Minute l) t = from l t
+fromEdge Endless t = Never
 
 -- what is before the upper edge (leaf occurs)
 unfoldable pub beforeEdge : Edge → Time → Time
-beforeEdge (edge r) t = before r t
-beforeEdge endless t = t
+beforeEdge (Minute r) t = before r t
+beforeEdge Endless t = t
 
 -- the time of the upper edge: none if it is open or past the last minute (leaf fails)
 unfoldable pub reached : Edge → Time
-reached (edge r) = cut r
-reached endless = Never
+reached (Minute r) = cut r
+reached Endless = Never
 
 -- a bound's value, with g the earliest happening of its event (bounds)
 unfoldable pub edgeOf : Bound → ℕ → Edge
-edgeOf (Plain n) g = edge n
-edgeOf (Plus e n) g = edge (g + n)
-edgeOf (Minus e n) g = edge (g - n)
-edgeOf Open g = endless
+edgeOf (Plain n) g = Minute n
+edgeOf (Plus e n) g = Minute (g + n)
+edgeOf (Minus e n) g = Minute (g - n)
+edgeOf Open g = Endless
 
 -- when an event happens by the record r: at its stamp, or at the stage's time for it (happenings)
 unfoldable pub timeBy : StageTimes → Event → Record → Time
@@ -67,13 +65,6 @@ timeBy times (StageOf s j) r = times s j r
 -- the same for a subject: by a record of the event's kind that correlates with it (happenings)
 unfoldable pub happening : StageTimes → Terms → Record → Event → Record → Time
 happening times terms subject e r = elim (eqb (r .kind) (kindOf terms e) && correlate terms subject r) [ true ↦ timeBy times e r | false ↦ Never ]
-
--- when an expression occurs, and when it fails (expressions)
-pub record Times : Type 0 where
-  -- its occurrence
-  pub occurs : Time
-  -- its failure
-  pub fails : Time
 
 -- and: both are needed, one failure is enough (expressions)
 unfoldable pub andOf : Times → Times → Times
@@ -114,7 +105,7 @@ module _ (times : StageTimes) (terms : Terms) (log : Log) (subject : Record) whe
   -- failure at the upper edge: with nothing before it; or with nothing in the window, once the lower bound is known (leaf fails)
   unfoldable pub failureAt : Bound → Edge → Event → Time
   failureAt lower u e =
-      ifNever (firstWithin (edge 0) u e) (reached u)
+      ifNever (firstWithin (Minute 0) u e) (reached u)
       (onceKnown (known lower) λ g. ifNever (firstWithin (edgeOf lower g) u e) (reached u) Never)
 
   -- no failure without a known upper bound, nor before it is known (leaf fails)

@@ -10,6 +10,7 @@ use Rattle.model.specs.declared.Time.{Time}
 use Rattle.model.specs.declared.Time.the-variants.{At, Never}
 use Rattle.model.specs.declared.Stage.{Stage}
 use Rattle.model.specs.declared.Stage.the-variants.{Created, Detached, Expired, Discharged, Violated}
+use Rattle.model.specs.declared.Row.{Row}
 use Rattle.model.specs.declared.Entries.{Entries}
 use Rattle.model.specs.Time.{before}
 use Rattle.model.specs.Stages.{stages}
@@ -17,21 +18,6 @@ use Rattle.model.specs.Lists.{numbersFrom}
 use Rattle.model.specs.Terms.{Terms, schemaAt}
 use Rattle.model.specs.Log.{Record, Log, valueOf, keyOf}
 use Rattle.model.specs.Meaning.{stageTime}
-
--- a row (call 4)
-pub record Row : Type 0 where
-  -- the stage
-  pub stage : Stage
-  -- the schema's number
-  pub schema : ℕ
-  -- the subject's key
-  pub key : ℕ
-  -- the privileged party
-  pub privileged : ℕ
-  -- the liable party
-  pub liable : ℕ
-  -- since which minute
-  pub time : ℕ
 
 -- the row of a subject's stage at the minute t (call 4)
 unfoldable pub rowOf : Terms → ℕ → Record → Stage → ℕ → Row
@@ -78,9 +64,13 @@ unfoldable pub find : (Record → Bool) → Log → Option Record
 find p [] = none
 find p (r ∷ log) = cond (p r) (some r) (find p log)
 
--- the subject of schema j with a key, stamped before the moment (call 5; table, 16)
+-- whether a record is the subject of schema j with a key, stamped before the moment (call 5; table, 16)
+unfoldable pub isSought : Terms → ℕ → ℕ → ℕ → Record → Bool
+isSought terms j key m r = isSubject terms j r && eqb (keyOf terms r) key && ltb (r .stamp) m
+
+-- the subject of schema j with a key, if there is one (call 5)
 unfoldable pub subjectOf : Terms → Log → ℕ → ℕ → ℕ → Option Record
-subjectOf terms log j key m = find (λ r. isSubject terms j r && eqb (keyOf terms r) key && ltb (r .stamp) m) log
+subjectOf terms log j key m = find (isSought terms j key m) log
 
 -- five entries not yet (call 5)
 unfoldable pub notYet : Entries

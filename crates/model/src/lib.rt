@@ -121,6 +121,18 @@ pub struct Leaf {
     pub upper: Bound,
 }
 
+// A bound's value: a minute, past the last one too, or no end.
+pub enum Edge {
+    Minute(u64),
+    Endless,
+}
+
+// When an expression occurs, and when it fails.
+pub struct Times {
+    pub occurs: Time,
+    pub fails: Time,
+}
+
 // Why a call is refused, in the order of the table.
 pub enum Refusal {
     TermsTooLong,
@@ -183,6 +195,16 @@ pub enum Appended {
 pub enum Reported {
     Count(usize),
     Refused(Refusal),
+}
+
+// A row of a report: a stage of a schema's agreement, its subject's key, the parties, and since which minute.
+pub struct Row {
+    pub stage: Stage,
+    pub schema: u8,
+    pub key: u32,
+    pub privileged: u32,
+    pub liable: u32,
+    pub time: u32,
 }
 
 // The five entries of a standing. Never stands for not yet.

@@ -1,6 +1,7 @@
 -- One step of each check of terms: schemas at their places, and tests of lists as the code makes them.
 --     schema-here                   a schema that is there stands for its items
 --     subject-here, subject-past    its subject kind, and the one past the last schema
+--     type-here                     its norm type
 --     leaf-asked                    a question about a leaf's events, one after another
 --     Left, left-…                  a test of the numbers below n, one after another
 -- Assumes nothing.
@@ -9,7 +10,7 @@ use native.Mathlib.Nat.{sub-zero}
 use native.Mathlib.Numerals.{add-one}
 use native.Mathlib.Omega.{arith}
 use mathlib.Core.Path.{_≡_, refl, ap, sym, _∙_}
-use mathlib.Core.Bool.{Bool, true, false, not, _||_}
+use mathlib.Core.Bool.{Bool, true, false, _||_}
 use mathlib.Core.List.{List, [], _∷_, map}
 use lib.ListN.{length, getD, length-map, List·getD-eq-default}
 use Rattle.model.specs.Lists.{numbersFrom, anyOf}
@@ -17,7 +18,7 @@ use Rattle.model.specs.declared.Leaf.{Leaf}
 use Rattle.model.specs.Terms.{Terms, Schema, schemaAt, boundEvents, leafEvents}
 use Rattle.model.specs.Bytes.{byteAt}
 use Rattle.model.specs.Grammar.{fileOf}
-use Rattle.model.specs.Fields.{leafFrom, schemaFrom, termsFrom}
+use Rattle.model.specs.Fields.{normTypeOf, leafFrom, schemaFrom, termsFrom}
 use Rattle.model.specs.Calls.{termsOf}
 use Rattle.model.proofs.PlaceLaws.{byte-within}
 use Rattle.model.proofs.ListLaws.{any-here, any-behind, any-append}
@@ -45,6 +46,15 @@ subject-here s starts n laid h =
     let found = laid n h .1 in
     let at = getD starts (3 * n) 0 in
     rw (schema-here s n h, found .head-body) (byte-within s (at - 4) 1 4 (omega arith))
+
+-- a schema's norm type is named by the first byte of its head, which stands right before the create clause
+pub type-here : (s starts : List ℕ) (n : ℕ) → Starts s (fileOf s .schemas) starts → n < length (fileOf s .schemas)
+    → schemaAt (termsOf s) n .type ≡ normTypeOf (byteAt s (getD starts (3 * n) 0 - 4))
+unfolding schemaFrom
+type-here s starts n laid h =
+    let found = laid n h .1 in
+    let at = getD starts (3 * n) 0 in
+    rw (schema-here s n h, found .head-body) (ap normTypeOf (byte-within s (at - 4) 0 4 (omega arith) ∙ ap (byteAt s) (omega arith)))
 
 -- past the last schema
 pub subject-past : (s : List ℕ) (n : ℕ) → length (fileOf s .schemas) ≤ n → schemaAt (termsOf s) n .subject ≡ 0

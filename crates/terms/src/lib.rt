@@ -80,7 +80,7 @@ fn cites_from(k: usize, event: Event) -> bool
 }
 
 // Where the body of a schema's item 02 starts: right before its create clause.
-fn head_at(starts: &[usize], n: usize) -> usize
+pub fn head_at(starts: &[usize], n: usize) -> usize
     requires { ⌜ (3 * n < length (now starts)) × (4 ≤ getD (now starts) (3 * n) 0) ⌝ }
     ensures { λ r. ⌜ r ≡ getD (now (starts .entry)) (3 * n) 0 - 4 ⌝ }
 {

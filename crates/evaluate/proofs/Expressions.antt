@@ -1,0 +1,92 @@
+-- The times of an expression at a place of terms, by what the code tells of it; and a stage's time from the parts of its clauses' times.
+--     expression-as                                   what is known of an expression, as the code told it
+--     leaf-times, and-times, or-times, except-times   its times, case by case
+--     always-times, nothing-times
+--     stage-here                                      a stage's time from its clauses
+-- Assumes nothing.
+use Prim.Native.Nat.{ℕ, _+_, _*_, _<_}
+use mathlib.Core.Path.{_≡_}
+use mathlib.Core.List.{List}
+use lib.ListN.{length, getD}
+use Rattle.model.specs.declared.Time.{Time}
+use Rattle.model.specs.declared.Time.the-variants.{At, Never}
+use Rattle.model.specs.declared.Stage.{Stage}
+use Rattle.model.specs.declared.NormType.{NormType}
+use Rattle.model.specs.declared.Leaf.{Leaf}
+use Rattle.model.specs.declared.Times.{Times}
+use Rattle.model.specs.Time.{laterOf}
+use Rattle.model.specs.Terms.{Expr, leaf, and, or, except, always, schemaAt}
+use Rattle.model.specs.Meaning.{cited, andOf, orOf, exceptOf, leafOccurrence, leafFailure, timesOf, stageFrom, stageStep, stageTime}
+use Rattle.model.specs.Grammar.{exprLimit, fileOf}
+use Rattle.model.specs.Fields.{neither, exprAt}
+use Rattle.model.specs.Calls.{termsOf}
+use Rattle.model.proofs.FieldLaws.{neither-silent}
+use Rattle.model.proofs.Equation.{time-equation}
+use Rattle.grammar.specs.Places.{Starts}
+use Rattle.log.specs.Holds.{recordAt}
+use Rattle.fields.specs.declared.Expression.{Expression}
+use Rattle.fields.specs.Decoded.{ExpressionAt}
+use Rattle.terms.proofs.ClauseLaws.{create-here, detach-here, consequent-here}
+use Rattle.times.specs.declared.Part.{Part}
+use Rattle.times.specs.declared.Part.the-variants.{Occurrence}
+use Rattle.times.specs.Parts.{partOf, detachPart, consequentPart}
+use Rattle.times.proofs.Needs.{stage-needs}
+use Rattle.evaluate.specs.Seen.{logIn, recordIn, stageIn, under}
+
+-- what is known of an expression, as the code told it
+pub expression-as : (s : List ℕ) (at items : ℕ) {r : Expression} → ExpressionAt s at items r → (x : Expression) → r ≡ x → ExpressionAt s at items x
+expression-as s at items h x e = rw e at h
+
+module _ (terms log : List ℕ) (k subject : ℕ) where
+  -- the times of an expression, for a clause of rank k and the subject
+  abbrev pub timesIn : Expr Leaf → Times
+  timesIn x = under timesOf terms log k subject x
+
+  module _ {x : Expr Leaf} where
+    -- those of a leaf
+    pub leaf-times : {l : Leaf} → x ≡ leaf l → timesIn x ≡ record { occurs = under leafOccurrence terms log k subject l; fails = under leafFailure terms log k subject l }
+    unfolding under timesOf
+    leaf-times e = rw e
+
+    -- those of both
+    pub and-times : {a b : Expr Leaf} → x ≡ and a b → timesIn x ≡ andOf (timesIn a) (timesIn b)
+    unfolding under timesOf
+    and-times e = rw e
+
+    -- those of one or the other
+    pub or-times : {a b : Expr Leaf} → x ≡ or a b → timesIn x ≡ orOf (timesIn a) (timesIn b)
+    unfolding under timesOf
+    or-times e = rw e
+
+    -- those of one without the other
+    pub except-times : {a b : Expr Leaf} → x ≡ except a b → timesIn x ≡ exceptOf (timesIn a) (timesIn b)
+    unfolding under timesOf
+    except-times e = rw e
+
+    -- those of what always occurs
+    pub always-times : x ≡ always → timesIn x ≡ record { occurs = At 0; fails = Never }
+    unfolding under timesOf
+    always-times e = rw e
+
+    -- those of what cannot be read
+    pub nothing-times : x ≡ leaf neither → timesIn x ≡ record { occurs = Never; fails = Never }
+    unfolding under timesOf
+    nothing-times e =
+        let silent = neither-silent (cited k (stageTime (termsOf terms) (logIn terms log))) (termsOf terms) (logIn terms log) (recordIn terms log subject) in
+        rw (e, silent .0, silent .1)
+
+-- the times of the clause of rank k, as it is read at its start
+abbrev pub clauseIn : List ℕ → List ℕ → List ℕ → ℕ → ℕ → Times
+clauseIn terms log starts subject k = timesIn terms log k subject (exprAt terms (getD starts k 0) exprLimit)
+
+module _ (terms log starts : List ℕ) (subject j : ℕ) (laid : Starts terms (fileOf terms .schemas) starts) (h : j < length (fileOf terms .schemas)) where
+  -- a stage's time, from those times of its clauses that it needs
+  pub stage-here : (s : Stage) {norm : NormType} {stamp : ℕ} {time : Time} {c r u : Times} {detach consequent : Part} → time ≡ laterOf (At stamp) (stageFrom s norm c r u)
+      → norm ≡ schemaAt (termsOf terms) j .type → stamp ≡ recordAt (termsOf terms) log subject .stamp → detach ≡ detachPart s → consequent ≡ consequentPart s norm
+      → c ≡ partOf Occurrence (clauseIn terms log starts subject (3 * j))
+      → r ≡ partOf detach (clauseIn terms log starts subject (3 * j + 1))
+      → u ≡ partOf consequent (clauseIn terms log starts subject (3 * j + 2))
+      → time ≡ stageIn terms log subject s j
+  unfolding recordIn stageIn stageStep under
+  stage-here s e type stamp d q c r u =
+      rw (e, c, r, u, d, q, type, stamp, stage-needs, create-here terms starts j laid h, detach-here terms starts j laid h, consequent-here terms starts j laid h, time-equation)

@@ -1,0 +1,4 @@
+-- Laws that the proofs of evaluation cite.
+pub mod Scan
+pub mod Leaves
+pub mod Expressions

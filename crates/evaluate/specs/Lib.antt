@@ -1,0 +1,2 @@
+-- What evaluation promises, over the model's meaning.
+pub mod Seen

@@ -1,0 +1,2 @@
+-- Proofs over the readings of expressions.
+pub mod Expressions

@@ -1,0 +1,2 @@
+-- Proofs over the times of clauses.
+pub mod Needs

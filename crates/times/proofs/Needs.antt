@@ -1,0 +1,40 @@
+-- A stage's time asks for no more of its clauses' times than the parts say. Assumes nothing.
+use mathlib.Core.Path.{_≡_, refl}
+use Rattle.model.specs.declared.Times.{Times}
+use Rattle.model.specs.declared.Stage.{Stage}
+use Rattle.model.specs.declared.Stage.the-variants.{Created, Detached, Expired, Discharged, Violated}
+use Rattle.model.specs.declared.NormType.{NormType}
+use Rattle.model.specs.declared.NormType.the-variants.{Commitment, Authorization, Prohibition, Power}
+use Rattle.model.specs.Meaning.{andOf, orOf, exceptOf, stageFrom}
+use Rattle.times.specs.declared.Part.the-variants.{Occurrence}
+use Rattle.times.specs.Parts.{partOf, detachPart, consequentPart}
+
+-- the parts of the clauses are enough
+pub stage-needs : (s : Stage) (norm : NormType) (c r u : Times) → stageFrom s norm (partOf Occurrence c) (partOf (detachPart s) r) (partOf (consequentPart s norm) u) ≡ stageFrom s norm c r u
+unfolding stageFrom andOf orOf exceptOf partOf detachPart consequentPart
+stage-needs Created norm c r u = refl
+stage-needs Detached norm c r u = refl
+stage-needs Expired norm c r u = refl
+stage-needs Discharged Commitment c r u = refl
+stage-needs Discharged Authorization c r u = refl
+stage-needs Discharged Prohibition c r u = refl
+stage-needs Discharged Power c r u = refl
+stage-needs Violated Commitment c r u = refl
+stage-needs Violated Authorization c r u = refl
+stage-needs Violated Prohibition c r u = refl
+stage-needs Violated Power c r u = refl
+
+-- of the clause c, its occurrence is enough
+pub create-needs : (s : Stage) (norm : NormType) (c r u : Times) → stageFrom s norm (partOf Occurrence c) r u ≡ stageFrom s norm c r u
+unfolding stageFrom andOf orOf exceptOf partOf
+create-needs Created norm c r u = refl
+create-needs Detached norm c r u = refl
+create-needs Expired norm c r u = refl
+create-needs Discharged Commitment c r u = refl
+create-needs Discharged Authorization c r u = refl
+create-needs Discharged Prohibition c r u = refl
+create-needs Discharged Power c r u = refl
+create-needs Violated Commitment c r u = refl
+create-needs Violated Authorization c r u = refl
+create-needs Violated Prohibition c r u = refl
+create-needs Violated Power c r u = refl

@@ -1,0 +1,37 @@
+-- `violated` meets its contract: type by type. Assumes nothing.
+use borrow.Author.Needs.{needs}
+use Rattle.model.specs.Meaning.{stageFrom}
+use Rattle.times.proofs.violated.Statement.{statement}
+use Rattle.times.proofs.violated.Tie as tie
+
+returns : tie.Need-returns
+unfolding stageFrom
+returns c = rw (c .except-of .ensures, c .before .before .before .and-of .ensures, c .before .enum-told .given .1)
+
+returns-2 : tie.Need-returns-2
+unfolding stageFrom
+returns-2 c = search needs
+
+returns-3 : tie.Need-returns-3
+unfolding stageFrom
+returns-3 c = rw (c .and-of2 .ensures, c .before .before .before .and-of .ensures, c .before .enum-told3 .given .1)
+
+returns-4 : tie.Need-returns-4
+unfolding stageFrom
+returns-4 c = search needs
+
+pub violated-spec : {M : Type 1} → statement M
+violated-spec =
+    tie.close
+    (tie.spec
+    (λ c κs. search needs)
+    (λ c. search needs)
+    (λ c κs. search needs)
+    (λ c. search needs)
+    (λ c. search needs)
+    (λ c κs. search needs)
+    (λ c. search needs)
+    returns
+    returns-2
+    returns-3
+    returns-4)
