@@ -2,7 +2,7 @@
 --     expression-as                                   what is known of an expression, as the code told it
 --     leaf-times, and-times, or-times, except-times   its times, case by case
 --     always-times, nothing-times
---     stage-here                                      a stage's time from its clauses
+--     stage-whole, stage-here                         a stage's time from its clauses
 -- Assumes nothing.
 use Prim.Native.Nat.{ℕ, _+_, _*_, _<_}
 use mathlib.Core.Path.{_≡_}
@@ -80,13 +80,18 @@ abbrev pub clauseIn : List ℕ → List ℕ → List ℕ → ℕ → ℕ → Tim
 clauseIn terms log starts subject k = timesIn terms log k subject (exprAt terms (getD starts k 0) exprLimit)
 
 module _ (terms log starts : List ℕ) (subject j : ℕ) (laid : Starts terms (fileOf terms .schemas) starts) (h : j < length (fileOf terms .schemas)) where
-  -- a stage's time, from those times of its clauses that it needs
+  -- a stage's time from the times of its clauses
+  pub stage-whole : (s : Stage) {norm : NormType} {stamp : ℕ} → norm ≡ schemaAt (termsOf terms) j .type → stamp ≡ recordAt (termsOf terms) log subject .stamp
+      → laterOf (At stamp) (stageFrom s norm (clauseIn terms log starts subject (3 * j)) (clauseIn terms log starts subject (3 * j + 1)) (clauseIn terms log starts subject (3 * j + 2)))
+      ≡ stageIn terms log subject s j
+  unfolding recordIn stageIn stageStep under
+  stage-whole s type stamp = rw (type, stamp, create-here terms starts j laid h, detach-here terms starts j laid h, consequent-here terms starts j laid h, time-equation)
+
+  -- the same from those times of its clauses that it needs
   pub stage-here : (s : Stage) {norm : NormType} {stamp : ℕ} {time : Time} {c r u : Times} {detach consequent : Part} → time ≡ laterOf (At stamp) (stageFrom s norm c r u)
       → norm ≡ schemaAt (termsOf terms) j .type → stamp ≡ recordAt (termsOf terms) log subject .stamp → detach ≡ detachPart s → consequent ≡ consequentPart s norm
       → c ≡ partOf Occurrence (clauseIn terms log starts subject (3 * j))
       → r ≡ partOf detach (clauseIn terms log starts subject (3 * j + 1))
       → u ≡ partOf consequent (clauseIn terms log starts subject (3 * j + 2))
       → time ≡ stageIn terms log subject s j
-  unfolding recordIn stageIn stageStep under
-  stage-here s e type stamp d q c r u =
-      rw (e, c, r, u, d, q, type, stamp, stage-needs, create-here terms starts j laid h, detach-here terms starts j laid h, consequent-here terms starts j laid h, time-equation)
+  stage-here s e type stamp d q c r u = rw (e, c, r, u, d, q, stage-needs) (stage-whole s type stamp)

@@ -1,6 +1,7 @@
 -- One law for each answer about a bound and a leaf, for what bytes stand for.
 --     plain-known, open-known                   a bound without an event is known from the start
---     event-never, plus-known, minus-known      any other by its event's earliest happening
+--     first-here                                an event's earliest happening
+--     event-never, plus-known, minus-known      a bound with an event, by its earliest happening
 --     occurs, occurs-no-…                       when a leaf occurs, and when not
 --     fails-empty, fails-missed                 when a leaf fails
 --     fails-no-…, fails-unreached, fails-met    when it does not
@@ -49,28 +50,28 @@ module _ (terms log : List ℕ) (k subject : ℕ) where
   unfolding under known knownAs edgeOf
   open-known b e = rw e
 
-  module _ (b : Bound) (e : Event) (n : ℕ) {r : Time} (here : r ≡ under firstWithin terms log k subject (Minute 0) Endless e) where
-    -- the earliest happening, without a window
-    found : under first terms log k subject e ≡ r
-    unfolding under
-    found = first-whole _ _ _ _ e ∙ sym here
+  -- an event's earliest happening is the first one in the window from 0 on
+  pub first-here : (e : Event) {r : Time} → r ≡ under firstWithin terms log k subject (Minute 0) Endless e → r ≡ under first terms log k subject e
+  unfolding under
+  first-here e p = p ∙ sym (first-whole _ _ _ _ e)
 
+  module _ (b : Bound) (e : Event) (n : ℕ) {r : Time} (here : r ≡ under first terms log k subject e) where
     -- an event that never happens leaves its bound unknown
     pub event-never : (b ≡ Plus e n) ⊎ (b ≡ Minus e n) → r ≡ Never → Unknown ≡ knownAs b (under known terms log k subject b)
     unfolding under known knownAs
-    event-never (inl p) q = rw p (sym (ap (knownAs (Plus e n)) (found ∙ q)))
-    event-never (inr p) q = rw p (sym (ap (knownAs (Minus e n)) (found ∙ q)))
+    event-never (inl p) q = rw p (sym (ap (knownAs (Plus e n)) (sym here ∙ q)))
+    event-never (inr p) q = rw p (sym (ap (knownAs (Minus e n)) (sym here ∙ q)))
 
     module _ {g : ℕ} (at : r ≡ At g) {u : Edge} where
       -- a bound behind its event is known when that happens
       pub plus-known : b ≡ Plus e n → u ≡ Minute (g + n) → Known u g ≡ knownAs b (under known terms log k subject b)
       unfolding under known knownAs edgeOf
-      plus-known p q = rw (p, q) (sym (ap (knownAs (Plus e n)) (found ∙ at)))
+      plus-known p q = rw (p, q) (sym (ap (knownAs (Plus e n)) (sym here ∙ at)))
 
       -- so is one before its event
       pub minus-known : b ≡ Minus e n → u ≡ Minute (g - n) → Known u g ≡ knownAs b (under known terms log k subject b)
       unfolding under known knownAs edgeOf
-      minus-known p q = rw (p, q) (sym (ap (knownAs (Minus e n)) (found ∙ at)))
+      minus-known p q = rw (p, q) (sym (ap (knownAs (Minus e n)) (sym here ∙ at)))
 
   module _ (x : Leaf) where
     module _ {r : KnownBound} (lower : r ≡ knownAs (x .lower) (under known terms log k subject (x .lower))) where

@@ -84,7 +84,7 @@ module _ (s : List ℕ) (at items : ℕ) where
           let a = before-second in
           let q : readExpr left (items - 1 - size (a .0)) (drop second s) ≡ some (b .0, drop end s) = rw leaves-items (b .1) in (
             rw (expr-some (items - 1) s (at + 1) (items - 1) (a .0) (drop second s) (a .1), expr-some left s second left (b .0) (drop end s) (b .1))
-            (expr-join is (items - 1) left s at items (a .0) (b .0) (drop second s) (drop end s) k (a .1) q),
+                (expr-join is (items - 1) left s at items (a .0) (b .0) (drop second s) (drop end s) k (a .1) q),
             omega (arith, a .3, a .4),
             omega (arith, a .2, size-positive (a .0)),
           )

@@ -6,8 +6,8 @@ use Rattle.model.specs.declared.Stage.the-variants.{Created, Detached, Expired,
 use Rattle.model.specs.declared.NormType.{NormType}
 use Rattle.model.specs.declared.NormType.the-variants.{Commitment, Authorization, Prohibition, Power}
 use Rattle.model.specs.Meaning.{andOf, orOf, exceptOf, stageFrom}
-use Rattle.times.specs.declared.Part.the-variants.{Occurrence}
-use Rattle.times.specs.Parts.{partOf, detachPart, consequentPart}
+use Rattle.times.specs.declared.Part.the-variants.{Occurrence, Both}
+use Rattle.times.specs.Parts.{partOf, detachPart, consequentPart, consequentParts}
 
 -- the parts of the clauses are enough
 pub stage-needs : (s : Stage) (norm : NormType) (c r u : Times) → stageFrom s norm (partOf Occurrence c) (partOf (detachPart s) r) (partOf (consequentPart s norm) u) ≡ stageFrom s norm c r u
@@ -24,17 +24,17 @@ stage-needs Violated Authorization c r u = refl
 stage-needs Violated Prohibition c r u = refl
 stage-needs Violated Power c r u = refl
 
--- of the clause c, its occurrence is enough
-pub create-needs : (s : Stage) (norm : NormType) (c r u : Times) → stageFrom s norm (partOf Occurrence c) r u ≡ stageFrom s norm c r u
-unfolding stageFrom andOf orOf exceptOf partOf
-create-needs Created norm c r u = refl
-create-needs Detached norm c r u = refl
-create-needs Expired norm c r u = refl
-create-needs Discharged Commitment c r u = refl
-create-needs Discharged Authorization c r u = refl
-create-needs Discharged Prohibition c r u = refl
-create-needs Discharged Power c r u = refl
-create-needs Violated Commitment c r u = refl
-create-needs Violated Authorization c r u = refl
-create-needs Violated Prohibition c r u = refl
-create-needs Violated Power c r u = refl
+-- so are those that all stages together need
+pub rows-need : (s : Stage) (norm : NormType) (c r u : Times) → stageFrom s norm (partOf Occurrence c) (partOf Both r) (partOf (consequentParts norm) u) ≡ stageFrom s norm c r u
+unfolding stageFrom andOf orOf exceptOf partOf consequentParts
+rows-need Created norm c r u = refl
+rows-need Detached norm c r u = refl
+rows-need Expired norm c r u = refl
+rows-need Discharged Commitment c r u = refl
+rows-need Discharged Authorization c r u = refl
+rows-need Discharged Prohibition c r u = refl
+rows-need Discharged Power c r u = refl
+rows-need Violated Commitment c r u = refl
+rows-need Violated Authorization c r u = refl
+rows-need Violated Prohibition c r u = refl
+rows-need Violated Power c r u = refl

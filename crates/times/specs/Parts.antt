@@ -36,3 +36,10 @@ consequentPart Violated Commitment = Failure
 consequentPart Violated Authorization = Neither
 consequentPart Violated Prohibition = Occurrence
 consequentPart Violated Power = Neither
+
+-- of the clause u, for all stages together
+unfoldable pub consequentParts : NormType → Part
+consequentParts Commitment = Both
+consequentParts Authorization = Occurrence
+consequentParts Prohibition = Both
+consequentParts Power = Occurrence

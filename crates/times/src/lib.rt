@@ -8,7 +8,7 @@ ghost use mathlib.Core.Path.{_≡_};
 ghost use Prim.Native.Nat.{_+_, _-_};
 ghost use Rattle.model.specs.Time.{laterOf, before};
 ghost use Rattle.model.specs.Meaning.{fromEdge, beforeEdge, reached, andOf, orOf, exceptOf, stageFrom};
-ghost use Rattle.times.specs.Parts.{detachPart, consequentPart};
+ghost use Rattle.times.specs.Parts.{detachPart, consequentPart, consequentParts};
 
 // The last minute that a time can have.
 pub const LAST_MINUTE: u64 = 4294967294;
@@ -253,5 +253,17 @@ pub fn consequent_part(stage: Stage, norm: NormType) -> Part
         Stage::Expired => Part::Neither,
         Stage::Discharged => discharged_part(norm),
         Stage::Violated => violated_part(norm),
+    }
+}
+
+// What the stages of a norm type need of the consequent clause, all five together.
+pub fn consequent_parts(norm: NormType) -> Part
+    ensures { λ r. ⌜ r ≡ consequentParts norm ⌝ }
+{
+    match norm {
+        NormType::Commitment => Part::Both,
+        NormType::Authorization => Part::Occurrence,
+        NormType::Prohibition => Part::Both,
+        NormType::Power => Part::Occurrence,
     }
 }

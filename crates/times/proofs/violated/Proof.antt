@@ -6,7 +6,7 @@ use Rattle.times.proofs.violated.Tie as tie
 
 returns : tie.Need-returns
 unfolding stageFrom
-returns c = rw (c .except-of .ensures, c .before .before .before .and-of .ensures, c .before .enum-told .given .1)
+returns c = cc
 
 returns-2 : tie.Need-returns-2
 unfolding stageFrom
@@ -14,7 +14,7 @@ returns-2 c = search needs
 
 returns-3 : tie.Need-returns-3
 unfolding stageFrom
-returns-3 c = rw (c .and-of2 .ensures, c .before .before .before .and-of .ensures, c .before .enum-told3 .given .1)
+returns-3 c = cc
 
 returns-4 : tie.Need-returns-4
 unfolding stageFrom

@@ -1,0 +1,28 @@
+-- `show_rows` meets its contract. The place stays within the page; the rows left become fewer. Assumes nothing.
+use Prim.Native.Nat.{_≤_}
+use borrow.Author.Needs.{needs}
+use lib.ListN.{length}
+use Rattle.cases.proofs.show.show_rows.Statement.{statement}
+use Rattle.cases.proofs.show.show_rows.Tie as tie
+
+abbrev Inv-loop : tie.InvT-loop
+Inv-loop page count at₀ left₀ at left = at ≤ length page
+
+abbrev μ-loop : tie.MeasureT-loop
+μ-loop page count at₀ left₀ at left = left
+
+pub show-rows-spec : {M : Type 1} → statement M
+show-rows-spec =
+    tie.close
+    (tie.spec
+    Inv-loop
+    μ-loop
+    (λ c. search needs)
+    (λ c. search needs)
+    (λ c. search needs)
+    (λ c κs. search needs)
+    (λ c. search needs)
+    (λ c. search needs)
+    (λ c. search needs)
+    (λ c. search needs)
+    (λ c. search needs))

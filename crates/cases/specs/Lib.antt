@@ -1,0 +1,3 @@
+-- What the contracts of the program's functions share.
+pub mod Lends
+pub mod Within

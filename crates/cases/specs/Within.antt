@@ -1,0 +1,21 @@
+-- A case lies within the text and the two buffers.
+use Prim.Native.Nat.{ℕ, _≤_}
+use mathlib.Core.List.{List}
+use lib.ListN.{length}
+use Rattle.cases.specs.declared.Case.{Case}
+use Rattle.cases.specs.Lends.{Lends}
+
+-- Its name and its end are places of the text, its terms and its log fill no more than their buffers.
+pub record Within (case : Case) (text terms log : List ℕ) : Type 0 where
+  -- the name ends behind its start
+  pub named : case .name ≤ case .behind
+  -- and before the case does
+  pub name-ends : case .behind ≤ case .at
+  -- the case ends inside the text
+  pub ends : case .at ≤ length text
+  -- its terms are in their buffer
+  pub terms-fit : case .terms ≤ length terms
+  -- its log is in its buffer
+  pub log-fits : case .log ≤ length log
+  -- it asks for no more of the page than there is
+  pub lends : Lends (case .ask)

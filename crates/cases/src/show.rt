@@ -1,0 +1,203 @@
+// Prints what the calls answer.
+use libc::STDOUT_FILENO;
+use model::Checked;
+use model::Entries;
+use model::Refusal;
+use model::Reported;
+use model::Stage;
+use model::StageForm;
+use model::Standing;
+use model::Time;
+ghost use Prim.Native.Nat.{_+_, _<_, _≤_};
+ghost use lib.ListN.{length};
+
+// How many bytes a row has.
+const ROW_LENGTH: usize = 18;
+
+// What stands in each byte of a page that no call has written.
+pub const UNWRITTEN: u8 = 255;
+
+// Prints bytes as they are.
+pub fn say(words: &[u8]) {
+    io::write_all(STDOUT_FILENO, words);
+}
+
+// Prints a number, with a space before it.
+fn say_number(n: u64) {
+    say(b" ");
+    io::print_decimal(STDOUT_FILENO, n);
+}
+
+// Prints a refusal.
+fn show_refusal(refusal: Refusal) {
+    say(b": refused");
+    say_number(wide(refusal.number()));
+    say(b"\n");
+}
+
+// Says that the text is not written as its first lines say.
+pub fn show_bad() {
+    say(b"bad cases\n");
+}
+
+// Prints the answer of call 1 or 2.
+pub fn show_checked(checked: Checked) {
+    match checked {
+        Checked::Accepted => {
+            say(b": accepted\n");
+        }
+        Checked::Refused(refusal) => {
+            show_refusal(refusal);
+        }
+    }
+}
+
+// Prints the stage that the first byte of a row names.
+fn show_stage(form: u8) {
+    let StageForm::Is(stage) = Stage::of_form(form) else {
+        say(b"  no-stage");
+        return;
+    };
+    match stage {
+        Stage::Created => {
+            say(b"  created");
+        }
+        Stage::Detached => {
+            say(b"  detached");
+        }
+        Stage::Expired => {
+            say(b"  expired");
+        }
+        Stage::Discharged => {
+            say(b"  discharged");
+        }
+        Stage::Violated => {
+            say(b"  violated");
+        }
+    }
+}
+
+// A byte as a number.
+fn wide(b: u8) -> u64
+    ensures { λ r. ⌜ r < 256 ⌝ }
+{
+    b as u64
+}
+
+// The number in four bytes of a page, the low one first.
+fn number_at(page: &[u8], at: usize) -> u64
+    requires { ⌜ at + 4 ≤ length (now page) ⌝ }
+{
+    let low = wide(page[at]) + 256 * wide(page[at + 1]);
+    let high = wide(page[at + 2]) + 256 * wide(page[at + 3]);
+    low + 65536 * high
+}
+
+// Prints the row at a place of a page.
+fn show_row(page: &[u8], at: usize)
+    requires { ⌜ at + 18 ≤ length (now page) ⌝ }
+{
+    show_stage(page[at]);
+    say_number(wide(page[at + 1]));
+    say_number(number_at(page, at + 2));
+    say_number(number_at(page, at + 6));
+    say_number(number_at(page, at + 10));
+    say_number(number_at(page, at + 14));
+    say(b"\n");
+}
+
+// Prints so many rows, as far as the page has room for them. The place behind them.
+fn show_rows(page: &[u8], count: usize) -> usize
+    ensures { λ r. ⌜ r ≤ length (now (page .entry)) ⌝ }
+{
+    let mut at: usize = 0;
+    let mut left = count;
+    while 0 < left {
+        if page.len() - at < ROW_LENGTH {
+            return at;
+        }
+        show_row(page, at);
+        at += ROW_LENGTH;
+        left -= 1;
+    }
+    at
+}
+
+// Whether a byte at a place or behind it has been written.
+fn written_from(page: &[u8], from: usize) -> bool
+    requires { ⌜ from ≤ length (now page) ⌝ }
+{
+    let mut at = from;
+    while at < page.len() {
+        if page[at] != UNWRITTEN {
+            return true;
+        }
+        at += 1;
+    }
+    false
+}
+
+// Says so if the page has been written from a place on.
+fn show_page(page: &[u8], from: usize)
+    requires { ⌜ from ≤ length (now page) ⌝ }
+{
+    if written_from(page, from) {
+        say(b"  page changed\n");
+    }
+}
+
+// Prints the answer of call 4, the rows that are on the page, and whether anything else on it has been written.
+pub fn show_reported(reported: Reported, page: &[u8]) {
+    match reported {
+        Reported::Count(count) => {
+            say(b":");
+            say_number(count as u64);
+            say(b" rows\n");
+            show_page(page, show_rows(page, count));
+        }
+        Reported::Refused(refusal) => {
+            show_refusal(refusal);
+            show_page(page, 0);
+        }
+    }
+}
+
+// Prints an entry of a standing.
+fn show_entry(entry: Time) {
+    match entry {
+        Time::At(minute) => {
+            say_number(minute as u64);
+        }
+        Time::Never => {
+            say(b" not-yet");
+        }
+    }
+}
+
+// Prints the five entries of a standing.
+fn show_entries(entries: Entries) {
+    say(b":");
+    let created = entries.created;
+    let detached = entries.detached;
+    let expired = entries.expired;
+    let discharged = entries.discharged;
+    let violated = entries.violated;
+    show_entry(created);
+    show_entry(detached);
+    show_entry(expired);
+    show_entry(discharged);
+    show_entry(violated);
+    say(b"\n");
+}
+
+// Prints the answer of call 5.
+pub fn show_standing(standing: Standing) {
+    match standing {
+        Standing::Shown(entries) => {
+            show_entries(entries);
+        }
+        Standing::Refused(refusal) => {
+            show_refusal(refusal);
+        }
+    }
+}

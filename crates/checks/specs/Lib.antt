@@ -1,2 +1,0 @@
--- What the contracts of the program's functions share.
-pub mod Within

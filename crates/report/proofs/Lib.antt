@@ -1,0 +1,8 @@
+-- Laws that the proofs of calls 4 and 5 cite.
+pub mod Entries
+pub mod RowLaws
+pub mod Accepted
+pub mod Sought
+pub mod Pages
+pub mod Parties
+pub mod Reports

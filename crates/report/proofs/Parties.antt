@@ -1,0 +1,103 @@
+-- The row of a subject: key and parties are carried where refusal 3 does not hold.
+--     kind-is           the kind of a record is its first byte
+--     key-known         each kind carries its key
+--     head-inside       the head of a schema is within the terms
+--     parties-asked     what the code asks of the parties' values
+--     row-is            the row by its values
+-- Assumes nothing.
+use Prim.Native.Nat.{ℕ, _+_, _-_, _*_, _≤_, _<_}
+use native.Mathlib.Omega.{arith}
+use mathlib.Core.Path.{_≡_, sym, _∙_}
+use mathlib.Core.Bool.{true, false, not, _||_}
+use mathlib.Core.List.{List}
+use lib.Dec.{leb, ltb, eqb}
+use lib.ListN.{length, getD}
+use borrow.Author.Tests.{not-false}
+use Rattle.model.specs.declared.Stage.{Stage}
+use Rattle.model.specs.Lists.{numbersFrom, anyOf}
+use Rattle.model.specs.Terms.{kindAt, schemaAt}
+use Rattle.model.specs.Log.{carries, carried, valueOf, keyOf}
+use Rattle.model.specs.Bytes.{byteAt}
+use Rattle.model.specs.Grammar.{fileOf}
+use Rattle.model.specs.Fields.{schemaFrom, headWrong, kindsWrong, fieldWrong}
+use Rattle.model.specs.Records.{valueWidth, recordLength}
+use Rattle.model.specs.Rows.{rowOf}
+use Rattle.model.specs.Calls.{termsOf}
+use Rattle.model.proofs.BoolLaws.{or-false}
+use Rattle.model.proofs.MemberLaws.{anyOf-none, numbers-mem}
+use Rattle.model.proofs.PlaceLaws.{byte-within}
+use Rattle.model.proofs.KindLaws.{key-carried, head-wrong-here}
+use Rattle.model.proofs.WalkLaws.{kind-here}
+use Rattle.grammar.specs.Places.{noItems, Placed}
+use Rattle.terms.specs.declared.Fault.the-variants.{Field}
+use Rattle.terms.specs.Questions.{schemaHas}
+use Rattle.terms.proofs.Steps.{schema-here, subject-here}
+use Rattle.terms.proofs.Faults.{field-faults, field-here}
+use Rattle.log.specs.Holds.{Kinds, Stands, recordAt}
+use Rattle.evaluate.specs.Seen.{recordIn}
+
+-- the record at a place is of the kind of its first byte
+pub kind-is : (terms log : List ℕ) (at : ℕ) {kind : ℕ} → byteAt log at ≡ kind → recordIn terms log at .kind ≡ kind
+unfolding recordIn
+kind-is terms log at e = kind-here valueWidth (termsOf terms) log at ∙ e
+
+-- each kind carries its key
+pub key-known : (terms : List ℕ) {kinds : ℕ} → fieldWrong (fileOf terms) ≡ false → kinds ≡ length (fileOf terms .kinds) → Kinds terms kinds
+key-known terms right e = (e, λ k h. key-carried terms right k (rw e at h))
+
+module _ (terms starts : List ℕ) {kinds : ℕ} (n : ℕ) (placed : Placed terms kinds starts) (h : 3 * n < length starts) where
+  -- the schema is there
+  there : n < length (fileOf terms .schemas)
+  there = omega (arith, placed .1)
+
+  -- its head is within the terms
+  pub head-inside : (4 ≤ getD starts (3 * n) 0) × (getD starts (3 * n) 0 ≤ length terms)
+  head-inside = placed .2 n there .1 .head-inside
+
+  -- its parties are the third and the fourth byte of its head
+  parties-here : (schemaAt (termsOf terms) n .privileged ≡ byteAt terms (getD starts (3 * n) 0 - 4 + 2))
+      × (schemaAt (termsOf terms) n .liable ≡ byteAt terms (getD starts (3 * n) 0 - 4 + 3))
+  unfolding schemaFrom
+  parties-here =
+      let at = getD starts (3 * n) 0 - 4 in
+      rw (schema-here terms n there, placed .2 n there .1 .head-body) (byte-within terms at 2 4 (omega arith), byte-within terms at 3 4 (omega arith))
+
+  -- refusal 3 does not hold at its head
+  head-right : fieldWrong (fileOf terms) ≡ false → headWrong (termsOf terms) (getD (fileOf terms .schemas) n noItems .head) ≡ false
+  head-right right =
+      let count = length (fileOf terms .schemas) in
+      let faults : anyOf (schemaHas terms Field) (numbersFrom 0 count) ≡ false = or-false (kindsWrong (fileOf terms)) _ (sym (field-faults terms) ∙ right) .1 in
+      let none = anyOf-none (schemaHas terms Field) (numbersFrom 0 count) faults (numbers-mem 0 count n (omega arith) (omega (arith, there))) in
+      or-false (headWrong (termsOf terms) (getD (fileOf terms .schemas) n noItems .head)) _ (sym (field-here terms n) ∙ none) .0
+
+  -- the subject kind carries both parties
+  parties-carried : fieldWrong (fileOf terms) ≡ false → let mask = kindAt (termsOf terms) (schemaAt (termsOf terms) n .subject) .mask in
+      (carries mask (byteAt terms (getD starts (3 * n) 0 - 4 + 2)) ≡ true) × (carries mask (byteAt terms (getD starts (3 * n) 0 - 4 + 3)) ≡ true)
+  parties-carried right =
+      let at = getD starts (3 * n) 0 - 4 in
+      let head = eqb (byteAt terms at) 0 || ltb 4 (byteAt terms at) || leb kinds (byteAt terms (at + 1)) in
+      let privileged = carries (kindAt (termsOf terms) (byteAt terms (at + 1)) .mask) (byteAt terms (at + 2)) in
+      let wrong = or-false (head || not privileged) _ (rw (placed .2 n there .1 .head-body, head-wrong-here terms kinds at (placed .0)) at (head-right right)) in
+      rw (subject-here terms starts n (placed .2) there) (not-false _ (or-false head _ (wrong .0) .1), not-false _ (wrong .1))
+
+  module _ (log : List ℕ) (subject : ℕ) (st : Stands (termsOf terms) log subject) (is : recordIn terms log subject .kind ≡ schemaAt (termsOf terms) n .subject) where
+    -- the subject's byte is the schema's subject kind
+    subject-is : byteAt log subject ≡ schemaAt (termsOf terms) n .subject
+    unfolding recordIn
+    subject-is = sym (kind-here valueWidth (termsOf terms) log subject) ∙ is
+
+    -- what the code asks of the values of the parties
+    pub parties-asked : fieldWrong (fileOf terms) ≡ false → {mask head : ℕ} → mask ≡ kindAt (termsOf terms) (byteAt log subject) .mask → head ≡ getD starts (3 * n) 0 - 4
+        → (carries mask (byteAt terms (head + 2)) ≡ true) × (carries mask (byteAt terms (head + 3)) ≡ true) × (subject + 5 + valueWidth * carried mask ≤ length log)
+    unfolding recordLength
+    parties-asked right m e = let both = parties-carried right in rw (m, e) (rw subject-is (both .0), rw subject-is (both .1), omega (arith, st .1))
+
+    -- the row by its values
+    pub row-is : {head key privileged liable : ℕ} → head ≡ getD starts (3 * n) 0 - 4
+        → key ≡ keyOf (termsOf terms) (recordAt (termsOf terms) log subject)
+        → privileged ≡ valueOf (termsOf terms) (recordAt (termsOf terms) log subject) (byteAt terms (head + 2))
+        → liable ≡ valueOf (termsOf terms) (recordAt (termsOf terms) log subject) (byteAt terms (head + 3))
+        → (stage : Stage) (time : ℕ)
+        → record { stage = stage; schema = n; key = key; privileged = privileged; liable = liable; time = time } ≡ rowOf (termsOf terms) n (recordIn terms log subject) stage time
+    unfolding rowOf recordIn
+    row-is e k p l stage time = rw (k, p, l, e, parties-here .0, parties-here .1)

@@ -1,0 +1,62 @@
+-- What call 4 answers and leaves on the page, by what is known of its checks.
+--     used-few           the used bytes are within the limit
+--     report-refused     refused as call 2
+--     report-short       refused by 10
+--     report-written     the count, and the rows on the page
+-- Assumes nothing.
+use Prim.Native.Nat.{ℕ, zero, suc, _*_, _≤_, _<_}
+use native.Mathlib.Omega.{arith}
+use mathlib.Core.Path.{_≡_, refl, sym}
+use mathlib.Core.Bool.{false}
+use mathlib.Core.List.{List, _++_}
+use lib.Dec.{ltb}
+use lib.ListN.{length, take}
+use lib.Seq.{length-take-le}
+use borrow.Author.Tests.{ltb-false, lt-ltb, le-ltb}
+use Rattle.model.specs.declared.Refusal.{Refusal}
+use Rattle.model.specs.declared.Refusal.the-variants.{PageTooShort}
+use Rattle.model.specs.declared.Checked.{Checked}
+use Rattle.model.specs.declared.Checked.the-variants as checkedCase
+use Rattle.model.specs.declared.Reported.the-variants as reportedCase
+use Rattle.model.specs.Answers.{refusalNumber, checkedAnswer, reportedAnswer}
+use Rattle.model.specs.Records.{valueWidth, rowLength}
+use Rattle.model.specs.Calls.{Check, refusal, logLimit, usedTooLong, logChecks, pageTooShort, pageChecks, checkLog, Outcome, outcome, unlessRefused, onPage, rowsOf, report}
+use Rattle.model.proofs.BoolLaws.{or-false}
+use Rattle.model.proofs.AnswerLaws.{refusal-positive}
+use Rattle.log.proofs.Checks.{used-inside}
+use Rattle.report.specs.Shown.{schemasFrom, withRows}
+use Rattle.report.proofs.RowLaws.{all-rows}
+use Rattle.report.proofs.Accepted.{log-refused}
+
+-- a used length that is kept is within the limit, and so are the used bytes
+pub used-few : (log : List ℕ) (used : ℕ) → usedTooLong log used ≡ false → length (take used log) ≤ 32768
+unfolding usedTooLong logLimit
+used-few log used e =
+    omega (arith, ltb-false 32768 used (or-false (ltb 32768 used) (ltb (length log) used) e .0), length-take-le used log (used-inside log used e))
+
+-- with a refusal no byte changes
+refused-as : (n : ℕ) (page : List ℕ) (o : Outcome) → 1 ≤ n → unlessRefused n page o ≡ outcome (record { number = n; value = 0 }) page
+unfolding unlessRefused
+refused-as zero page o h = absurd (omega arith)
+refused-as (suc n) page o h = refl
+
+module _ (terms log : List ℕ) (used m : ℕ) (page : List ℕ) where
+  -- the refusals of call 2 come first
+  pub report-refused : {found : Checked} {x : Refusal} → found ≡ checkedCase.Refused x → checkedAnswer found ≡ checkLog valueWidth terms log used
+      → outcome (reportedAnswer (reportedCase.Refused x)) page ≡ report valueWidth terms log used m page
+  unfolding reportedAnswer report onPage
+  report-refused {found} {x} is e =
+      rw (log-refused terms log used is e (pageChecks valueWidth (rowsOf valueWidth terms log used m) page)) (sym (refused-as (refusalNumber x) page _ (refusal-positive x)))
+
+  module _ (kept : (more : List Check) → refusal (logChecks valueWidth terms log used ++ more) ≡ refusal more)
+      {count : ℕ} (counted : count ≡ length (schemasFrom terms (take used log) m 0)) where
+    -- a page that is too short for the rows
+    pub report-short : length page < 18 * count → outcome (reportedAnswer (reportedCase.Refused PageTooShort)) page ≡ report valueWidth terms log used m page
+    unfolding reportedAnswer report onPage unlessRefused pageChecks pageTooShort rowLength refusal
+    report-short h = rw (kept, all-rows terms log used m, ← counted, lt-ltb (length page) (18 * count) h)
+
+    -- one that has room for them
+    pub report-written : 18 * count ≤ length page → {left : List ℕ} → left ≡ withRows page 0 (schemasFrom terms (take used log) m 0)
+        → outcome (reportedAnswer (reportedCase.Count count)) left ≡ report valueWidth terms log used m page
+    unfolding reportedAnswer report onPage unlessRefused pageChecks pageTooShort rowLength refusal withRows
+    report-written h e = rw (kept, all-rows terms log used m, ← counted, le-ltb (length page) (18 * count) h, e)

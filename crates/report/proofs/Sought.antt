@@ -1,0 +1,96 @@
+-- The subject that a standing asks for, and what call 5 answers.
+--     sought-other, sought-key, sought-stamp
+--                                       whether a record is that subject
+--     found-here, found-behind          the search, record by record
+--     standing-refused, standing-past, standing-nobody, standing-shown
+--                                       the answer: refused as call 2, by 15, by 16, or the entries
+-- Assumes nothing.
+use Prim.Native.Nat.{ℕ, zero, suc, _≤_, _<_}
+use native.Mathlib.Omega.{arith}
+use mathlib.Core.Path.{_≡_, refl, sym, _∙_}
+use mathlib.Core.Bool.{Bool, true, false}
+use mathlib.Core.List.{List, _++_}
+use mathlib.Core.Option.{some}
+use lib.Dec.{ltb}
+use lib.ListN.{length, take, drop}
+use borrow.Author.Tests.{le-leb, lt-leb, eq-eqb, ne-eqb}
+use Rattle.model.specs.declared.Refusal.{Refusal}
+use Rattle.model.specs.declared.Refusal.the-variants.{NoSchema, NoSubject}
+use Rattle.model.specs.declared.Checked.{Checked}
+use Rattle.model.specs.declared.Checked.the-variants as checkedCase
+use Rattle.model.specs.declared.Standing.the-variants as standingCase
+use Rattle.model.specs.declared.Entries.{Entries}
+use Rattle.model.specs.Terms.{Terms, schemaAt}
+use Rattle.model.specs.Log.{Record, keyOf}
+use Rattle.model.specs.Bytes.{byteAt}
+use Rattle.model.specs.Records.{valueWidth, recordsIn}
+use Rattle.model.specs.Rows.{find, isSought, notYet}
+use Rattle.model.specs.Answers.{refusalNumber, checkedAnswer, standingAnswer}
+use Rattle.model.specs.Calls.{Check, refusal, termsOf, logOf, logChecks, checkLog, noSchema, missing, standingSubject, keyChecks, entriesFor, standingAs, standing}
+use Rattle.model.proofs.AnswerLaws.{refusal-positive}
+use Rattle.log.specs.Holds.{recordAt}
+use Rattle.log.proofs.Steps.{Step}
+use Rattle.evaluate.specs.Seen.{logIn, recordIn}
+use Rattle.report.specs.declared.Place.the-variants as place
+use Rattle.report.specs.Shown.{entriesIn, FoundAt}
+use Rattle.report.proofs.RowLaws.{is-subject}
+use Rattle.report.proofs.Accepted.{log-refused}
+
+module _ (terms log : List ℕ) (schema key m at : ℕ) where
+  -- a record of another kind is not the one
+  pub sought-other : (byteAt log at ≡ schemaAt (termsOf terms) schema .subject → ⊥) → isSought (termsOf terms) schema key m (recordIn terms log at) ≡ false
+  unfolding isSought
+  sought-other ne = rw (is-subject terms log schema at ∙ ne-eqb (byteAt log at) _ ne)
+
+  module _ (is : byteAt log at ≡ schemaAt (termsOf terms) schema .subject) {k : ℕ} (e : k ≡ keyOf (termsOf terms) (recordAt (termsOf terms) log at)) where
+    -- nor is one with another key
+    pub sought-key : (k ≡ key → ⊥) → isSought (termsOf terms) schema key m (recordIn terms log at) ≡ false
+    unfolding isSought recordIn
+    sought-key ne = rw (is-subject terms log schema at ∙ eq-eqb (byteAt log at) _ is, ← e, ne-eqb k key ne)
+
+    -- one with the key is told by its stamp
+    pub sought-stamp : k ≡ key → {stamp : ℕ} → stamp ≡ recordAt (termsOf terms) log at .stamp → isSought (termsOf terms) schema key m (recordIn terms log at) ≡ ltb stamp m
+    unfolding isSought recordIn
+    sought-stamp same st = rw (is-subject terms log schema at ∙ eq-eqb (byteAt log at) _ is, ← e, eq-eqb k key same, st)
+
+module _ {t : Terms} {log : List ℕ} {at end : ℕ} (here : Step t log at end) (p : Record → Bool) {found : Bool} (e : found ≡ p (recordAt t log at)) where
+  -- the record at a place passes the test
+  pub found-here : found ≡ true → find p (recordsIn valueWidth t (drop at log)) ≡ some (recordAt t log at)
+  unfolding find
+  found-here is = rw (here .records, sym e ∙ is)
+
+  -- it does not: the search goes on behind it
+  pub found-behind : found ≡ false → find p (recordsIn valueWidth t (drop at log)) ≡ find p (recordsIn valueWidth t (drop end log))
+  unfolding find
+  found-behind is = rw (here .records, sym e ∙ is)
+
+-- with a refusal nothing is shown
+refused-as : (n : ℕ) (e : Entries) → 1 ≤ n → standingAs n e ≡ record { number = n; entries = notYet }
+unfolding standingAs
+refused-as zero e h = absurd (omega arith)
+refused-as (suc n) e h = refl
+
+module _ (terms log : List ℕ) (used schema key m : ℕ) where
+  -- the refusals of call 2 come first
+  pub standing-refused : {found : Checked} {x : Refusal} → found ≡ checkedCase.Refused x → checkedAnswer found ≡ checkLog valueWidth terms log used
+      → standingAnswer (standingCase.Refused x) ≡ standing valueWidth terms log used schema key m
+  unfolding standingAnswer standing
+  standing-refused {found} {x} is e = rw (log-refused terms log used is e (keyChecks valueWidth terms log used schema key m)) (sym (refused-as (refusalNumber x) _ (refusal-positive x)))
+
+  module _ (kept : (more : List Check) → refusal (logChecks valueWidth terms log used ++ more) ≡ refusal more) where
+    -- past the last schema
+    pub standing-past : length (termsOf terms .schemas) ≤ schema → standingAnswer (standingCase.Refused NoSchema) ≡ standing valueWidth terms log used schema key m
+    unfolding standingAnswer standing standingAs keyChecks refusal noSchema
+    standing-past h = rw (kept, le-leb (length (termsOf terms .schemas)) schema h)
+
+    module _ (there : schema < length (termsOf terms .schemas)) where
+      -- no subject was found
+      pub standing-nobody : FoundAt terms (take used log) schema key m place.Nowhere → standingAnswer (standingCase.Refused NoSubject) ≡ standing valueWidth terms log used schema key m
+      unfolding standingAnswer standing standingAs keyChecks refusal noSchema missing standingSubject logOf logIn
+      standing-nobody none = rw (kept, lt-leb (length (termsOf terms .schemas)) schema there, none)
+
+      -- the entries of the one that was found
+      pub standing-shown : (at : ℕ) {e : Entries} → FoundAt terms (take used log) schema key m (place.At at) → e ≡ entriesIn terms (take used log) at schema m
+          → standingAnswer (standingCase.Shown e) ≡ standing valueWidth terms log used schema key m
+      unfolding standingAnswer standing standingAs keyChecks refusal noSchema missing standingSubject logOf logIn entriesIn entriesFor
+      standing-shown at found is = rw (kept, lt-leb (length (termsOf terms .schemas)) schema there, found .0, is)

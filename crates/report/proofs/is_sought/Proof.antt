@@ -1,0 +1,56 @@
+-- `is_sought` meets its contract: the kind, then the key, then the stamp. Assumes nothing.
+use native.Mathlib.Omega.{arith}
+use mathlib.Core.Path.{_≡_, sym, _∙_}
+use borrow.Author.Needs.{needs}
+use Rattle.model.specs.Terms.{schemaAt}
+use Rattle.model.specs.Bytes.{byteAt}
+use Rattle.model.specs.Records.{recordLength}
+use Rattle.model.specs.Calls.{termsOf}
+use Rattle.model.proofs.KindLaws.{key-carried}
+use Rattle.log.proofs.Steps.{stands-inside}
+use Rattle.report.proofs.Sought.{sought-other, sought-key, sought-stamp}
+use Rattle.report.proofs.is_sought.Statement.{statement}
+use Rattle.report.proofs.is_sought.Tie as tie
+
+returns : tie.Need-returns
+unfolding byteAt
+returns c =
+    let a = c .before .before .before .before .before .before .args in
+    sym (sought-other (a .terms .now) (a .log .now) (a .schema) (a .key) (a .moment) (a .at) (λ e. c .if1 .taken (e ∙ sym (c .before .subject-of .ensures))))
+
+key-at-requires : tie.Need-key-at-requires
+key-at-requires c κs =
+    let start = c .before .before .before .before .before .before in
+    ((start .pre .0 .0, λ k h. key-carried (start .args .terms .now) (start .pre .2) k (omega (arith, start .pre .0 .0))), start .pre .1)
+
+-- the record is of the kind
+same-kind : (c : tie.Else1) → let a = c .before .before .before .before .before .before .args in byteAt (a .log .now) (a .at) ≡ schemaAt (termsOf (a .terms .now)) (a .schema) .subject
+unfolding byteAt
+same-kind c = c .if1 .left ∙ c .before .subject-of .ensures
+
+returns-2 : tie.Need-returns-2
+returns-2 c =
+    let a = c .before .before .before .before .before .before .before .before .args in
+    sym (sought-key (a .terms .now) (a .log .now) (a .schema) (a .key) (a .moment) (a .at) (same-kind (c .before .before)) (c .before .key-at .ensures) (c .if2 .taken))
+
+stamp-at-requires : tie.Need-stamp-at-requires
+unfolding recordLength
+stamp-at-requires c κs = let start = c .before .before .before .before .before .before .before .before in omega (arith, start .pre .1 .1)
+
+returns-3 : tie.Need-returns-3
+returns-3 c =
+    let a = c .before .before .before .before .before .before .before .before .before .args in
+    sym (sought-stamp (a .terms .now) (a .log .now) (a .schema) (a .key) (a .moment) (a .at)
+    (same-kind (c .before .before .before)) (c .before .before .key-at .ensures) (c .before .if2 .left) (c .stamp-at .ensures _))
+
+pub is-sought-spec : {M : Type 1} → statement M
+is-sought-spec =
+    tie.close
+    (tie.spec
+    (λ c. let start = c .before .before .before .before in stands-inside _ (start .args .log .now) (start .args .at) (start .pre .1))
+    (λ c κs. search needs)
+    returns
+    key-at-requires
+    returns-2
+    stamp-at-requires
+    returns-3)

@@ -1,0 +1,17 @@
+-- `shown` meets its contract: one row where there is a time. Assumes nothing.
+use native.Mathlib.Omega.{arith}
+use borrow.Author.Needs.{needs}
+use Rattle.model.specs.Rows.{rowAt}
+use Rattle.report.proofs.rows.shown.Statement.{statement}
+use Rattle.report.proofs.rows.shown.Tie as tie
+
+returns : tie.Need-returns
+unfolding rowAt
+returns c = (λ f. rw (c .enum-told .given .1), omega arith)
+
+returns-2 : tie.Need-returns-2
+unfolding rowAt
+returns-2 c = (λ f. rw (c .enum-told2 .given .1), omega arith)
+
+pub shown-spec : {M : Type 1} → statement M
+shown-spec = tie.close (tie.spec (λ c. search needs) (λ c. search needs) returns returns-2)

@@ -1,0 +1,135 @@
+// Calls 4 and 5: a report on a lent page, and the standing of one agreement.
+mod rows;
+
+use grammar::Reading;
+use grammar::read_layout;
+use log::check_log_under;
+use log::key_at;
+use log::read_record;
+use log::stamp_at;
+use model::Checked;
+use model::Refusal;
+use model::Reported;
+use model::Standing;
+use rows::ROW_LENGTH;
+use rows::count_rows;
+use rows::entries_of;
+use rows::write_rows;
+use terms::subject_of;
+ghost use mathlib.Core.Path.{_≡_};
+ghost use mathlib.Core.Bool.{false};
+ghost use Rattle.model.specs.Grammar.{fileOf};
+ghost use Rattle.model.specs.Fields.{fieldWrong};
+ghost use Rattle.model.specs.Records.{valueWidth};
+ghost use Rattle.model.specs.Rows.{isSought};
+ghost use Rattle.model.specs.Answers.{reportedAnswer, standingAnswer};
+ghost use Rattle.model.specs.Calls.{termsOf, outcome, report, standing};
+ghost use Rattle.grammar.specs.Places.{Placed};
+ghost use Rattle.log.specs.Holds.{Stands};
+ghost use Rattle.evaluate.specs.Seen.{recordIn};
+ghost use Rattle.report.specs.Shown.{FoundAt};
+
+// A place of the log, or none.
+enum Place {
+    At(usize),
+    Nowhere,
+}
+
+// Call 4: the report at a moment. The checks, then the count of all rows, then the page's length, then the rows.
+pub fn report(terms: &[u8], log: &[u8], used: usize, moment: u32, page: &mut [u8]) -> Reported
+    ensures { λ r. ⌜ outcome (reportedAnswer r) (now (page .exit)) ≡ report valueWidth (now (terms .entry)) (now (log .entry)) used moment (now (page .entry)) ⌝ }
+{
+    let layout = read_layout(terms);
+    let kinds = layout.kinds;
+    let clauses = 3 * layout.schemas;
+    let places = layout.starts;
+    if let Checked::Refused(refusal) = check_log_under(terms, layout, log, used) {
+        return Reported::Refused(refusal);
+    }
+    let starts = &places[..clauses];
+    let records = &log[..used];
+    let count = count_rows(terms, kinds, starts, records, moment);
+    if page.len() < ROW_LENGTH * count {
+        return Reported::Refused(Refusal::PageTooShort);
+    }
+    write_rows(terms, kinds, starts, records, moment, page);
+    Reported::Count(count)
+}
+
+// Whether the record at a place is the subject that a standing asks for; the kind is compared first.
+fn is_sought(
+    terms: &[u8],
+    kinds: usize,
+    starts: &[usize],
+    log: &[u8],
+    at: usize,
+    schema: usize,
+    key: u32,
+    moment: u32,
+) -> bool
+    requires { ⌜ Placed (now terms) kinds (now starts) × Stands (termsOf (now terms)) (now log) at × (fieldWrong (fileOf (now terms)) ≡ false) ⌝ }
+    ensures { λ r. ⌜ r ≡ isSought (termsOf (now (terms .entry))) schema key moment (recordIn (now (terms .entry)) (now (log .entry)) at) ⌝ }
+{
+    if log[at] != subject_of(terms, kinds, starts, schema) {
+        return false;
+    }
+    if key_at(terms, kinds, log, at) != key {
+        return false;
+    }
+    stamp_at(log, at) < moment
+}
+
+// The place of the subject of a schema with a key, stamped before the moment.
+fn find_subject(
+    terms: &[u8],
+    kinds: usize,
+    starts: &[usize],
+    log: &[u8],
+    schema: usize,
+    key: u32,
+    moment: u32,
+) -> Place
+    requires { ⌜ Placed (now terms) kinds (now starts) × (fieldWrong (fileOf (now terms)) ≡ false) ⌝ }
+    ensures { λ r. ⌜ FoundAt (now (terms .entry)) (now (log .entry)) schema key moment r ⌝ }
+{
+    let mut at: usize = 0;
+    while at < log.len() {
+        let Reading::To(end) = read_record(terms, kinds, log, at) else {
+            return Place::Nowhere;
+        };
+        if is_sought(terms, kinds, starts, log, at, schema, key, moment) {
+            return Place::At(at);
+        }
+        at = end;
+    }
+    Place::Nowhere
+}
+
+// Call 5: the standing of the agreement of a schema with a key at a moment.
+pub fn standing(
+    terms: &[u8],
+    log: &[u8],
+    used: usize,
+    schema: usize,
+    key: u32,
+    moment: u32,
+) -> Standing
+    ensures { λ r. ⌜ standingAnswer r ≡ standing valueWidth (now (terms .entry)) (now (log .entry)) used schema key moment ⌝ }
+{
+    let layout = read_layout(terms);
+    let kinds = layout.kinds;
+    let schemas = layout.schemas;
+    let places = layout.starts;
+    if let Checked::Refused(refusal) = check_log_under(terms, layout, log, used) {
+        return Standing::Refused(refusal);
+    }
+    if schemas <= schema {
+        return Standing::Refused(Refusal::NoSchema);
+    }
+    let starts = &places[..3 * schemas];
+    let records = &log[..used];
+    let Place::At(subject) = find_subject(terms, kinds, starts, records, schema, key, moment) else {
+        return Standing::Refused(Refusal::NoSubject);
+    };
+    Standing::Shown(entries_of(terms, kinds, starts, records, subject, schema, moment))
+}
