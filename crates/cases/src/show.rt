@@ -8,11 +8,9 @@ use model::Stage;
 use model::StageForm;
 use model::Standing;
 use model::Time;
+use report::ROW_LENGTH;
 ghost use Prim.Native.Nat.{_+_, _<_, _≤_};
 ghost use lib.ListN.{length};
-
-// How many bytes a row has.
-const ROW_LENGTH: usize = 18;
 
 // What stands in each byte of a page that no call has written.
 pub const UNWRITTEN: u8 = 255;

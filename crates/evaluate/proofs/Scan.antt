@@ -1,16 +1,14 @@
 -- An event's happenings, record by record, by what the code knows.
---     stands-stamped, stands-whole                               what stands at the place of a record
 --     alike, kind-other, kind-same                               whether it is of a kind and correlates, its kind compared first
 --     happens-not, happens-kind, happens-above, happens-stage    when an event happens by the record at a place
 --     Scanned, scan-start, scan-step, scan-end                   the earliest happening in a window, record by record
 -- Assumes nothing.
-use Prim.Native.Nat.{ℕ, _+_, _-_, _*_, _≤_, _<_}
-use native.Mathlib.Omega.{arith}
+use Prim.Native.Nat.{ℕ, _-_, _≤_, _<_}
 use mathlib.Core.Path.{_≡_, refl, sym, _∙_}
 use mathlib.Core.Bool.{Bool, true, false, _&&_}
 use mathlib.Core.List.{List, []}
 use lib.Dec.{eqb}
-use lib.ListN.{length, drop}
+use lib.ListN.{drop}
 use borrow.Author.Tests.{eq-eqb, ne-eqb}
 use Rattle.model.specs.declared.Time.{Time}
 use Rattle.model.specs.declared.Time.the-variants.{At, Never}
@@ -19,29 +17,18 @@ use Rattle.model.specs.declared.Event.{Event}
 use Rattle.model.specs.declared.Event.the-variants.{Kind, StageOf}
 use Rattle.model.specs.declared.Edge.{Edge}
 use Rattle.model.specs.Time.{earlierOf}
-use Rattle.model.specs.Terms.{Terms, kindAt, kindOf, rank}
-use Rattle.model.specs.Log.{Record, carried, correlate}
+use Rattle.model.specs.Terms.{kindOf, rank}
+use Rattle.model.specs.Log.{Record, correlate}
 use Rattle.model.specs.Bytes.{byteAt}
 use Rattle.model.specs.Meaning.{cited, earliest, fromEdge, beforeEdge, timeBy, happening, firstWithin, stageTime}
-use Rattle.model.specs.Records.{valueWidth, recordLength, recordsIn}
+use Rattle.model.specs.Records.{valueWidth, recordsIn}
 use Rattle.model.specs.Calls.{termsOf}
 use Rattle.model.proofs.WalkLaws.{kind-here}
 use Rattle.model.proofs.TimeLaws.{earlier-assoc, earlier-never}
 use Rattle.model.proofs.Equation.{cited-below, cited-above}
-use Rattle.log.specs.Holds.{Stands, recordAt}
+use Rattle.log.specs.Holds.{recordAt}
 use Rattle.log.proofs.Steps.{Step}
 use Rattle.evaluate.specs.Seen.{logIn, recordIn, stageIn, under}
-
--- a record that stands at a place has its kind and its stamp there
-pub stands-stamped : (t : Terms) (log : List ℕ) (at : ℕ) → Stands t log at → at + 5 ≤ length log
-unfolding recordLength
-stands-stamped t log at st = omega (arith, st .1)
-
--- and the values of its kind's mask
-pub stands-whole : (t : Terms) (log : List ℕ) (at : ℕ) {kind mask : ℕ} → Stands t log at → byteAt log at ≡ kind → mask ≡ kindAt t kind .mask
-    → at + 5 + valueWidth * carried mask ≤ length log
-unfolding recordLength
-stands-whole t log at st k m = rw (m, ← k) (omega (arith, st .1))
 
 -- whether the record at a place is of a kind and correlates with the subject
 abbrev pub alike : List ℕ → List ℕ → ℕ → ℕ → ℕ → Bool

@@ -103,3 +103,9 @@ pub any-none : {A : Type 0} (p : A → Bool) (l : List A) → ((x : A) → p x �
 unfolding anyOf
 any-none p [] h = refl
 any-none p (x ∷ l) h = rw (h x) (any-none p l h)
+
+-- what each element gives, of lists one behind another
+pub flatMap-append : {A B : Type 0} (f : A → List B) (a b : List A) → flatMap f (a ++ b) ≡ flatMap f a ++ flatMap f b
+unfolding flatMap
+flatMap-append f [] b = refl
+flatMap-append f (x ∷ a) b = rw (flatMap-append f a b) (sym (append-assoc (f x) (flatMap f a) (flatMap f b)))

@@ -47,7 +47,8 @@ strike-rowAt terms m j r s (At n) = go (ltb n m)
     go false = refl
 strike-rowAt terms m j r s Never = refl
 
-strike-subject : (terms : Terms) (log : Log) (m j : ℕ) (r : Record)
+-- a report keeps the rows of a record that are timed before m
+pub strike-subject : (terms : Terms) (log : Log) (m j : ℕ) (r : Record)
     → strike (λ (x : Row). x .time) m (subjectRows terms log j r) ≡ subjectRowsAt terms log m j r
 unfolding subjectRows subjectRowsAt rowsAt strike
 strike-subject terms log m j r = go (isSubject terms j r)

@@ -1,6 +1,6 @@
 -- A key's standing shows the times of that subject's rows in the report of the same moment, no other and none missing.
 -- Document 01, 'Calls', 5. Assumes nothing.
-use Prim.Native.Nat.{ℕ, zero, suc, _<_}
+use Prim.Native.Nat.{ℕ, zero, suc, _≤_, _<_}
 use native.Mathlib.Omega.{arith}
 use mathlib.Core.Path.{_≡_, refl, ap, sym, _∙_}
 use mathlib.Core.Logic.{_↔_}
@@ -20,7 +20,7 @@ use Rattle.model.specs.Time.{before}
 use Rattle.model.specs.Terms.{Terms}
 use Rattle.model.specs.Log.{Record, Log, keyOf}
 use Rattle.model.specs.Meaning.{stageTime}
-use Rattle.model.specs.Rows.{rowOf, isSubject, reportRows, find, isSought, subjectOf, entriesOf}
+use Rattle.model.specs.Rows.{rowOf, isSubject, reportRows, find, isSought, subjectOf, notYet, entriesOf}
 use Rattle.model.specs.Records.{keyRepeats}
 use Rattle.model.specs.Calls.{termsOf, logOf, noSchema, missing, logChecks, standingSubject, keyChecks, refusal, entriesFor, standingAs, standing}
 use Rattle.model.proofs.BoolLaws.{and-true}
@@ -134,3 +134,9 @@ standing-shows w terms log used j key m e =
         (r, h, entries-show T L m j r once declared (h .logged) (h .is-subject))
     go zero none found there once declared e = let z : _≡_ {A = ℕ} 0 1 = cc in absurd (omega arith)
     go (suc n) o found there once declared e = absurd (omega arith)
+
+-- with a refusal nothing is shown
+pub refused-entries : (n : ℕ) (e : Entries) → 1 ≤ n → standingAs n e ≡ record { number = n; entries = notYet }
+unfolding standingAs
+refused-entries zero e h = absurd (omega arith)
+refused-entries (suc n) e h = refl

@@ -68,7 +68,7 @@ find p (r ∷ log) = cond (p r) (some r) (find p log)
 unfoldable pub isSought : Terms → ℕ → ℕ → ℕ → Record → Bool
 isSought terms j key m r = isSubject terms j r && eqb (keyOf terms r) key && ltb (r .stamp) m
 
--- the subject of schema j with a key, if there is one (call 5)
+-- the subject of schema j with a key, stamped before the moment, if there is one (call 5)
 unfoldable pub subjectOf : Terms → Log → ℕ → ℕ → ℕ → Option Record
 subjectOf terms log j key m = find (isSought terms j key m) log
 

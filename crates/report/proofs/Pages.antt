@@ -6,14 +6,12 @@
 --     row-whose             the rows of an agreement are those of its subject
 --     Left, left-…          rows of which some are left to be written
 -- Assumes nothing.
-use Prim.Native.Nat.{ℕ, _+_, _*_, _/_, _%_, _≤_, _<_}
-use native.Mathlib.Nat.{add-assoc, add-zero, div-div-eq-div-mul}
-use native.Mathlib.Numerals.{add-one}
+use Prim.Native.Nat.{ℕ, _+_, _*_, _/_, _%_, _≤_}
+use native.Mathlib.Nat.{add-zero, div-div-eq-div-mul}
 use native.Mathlib.Omega.{arith}
 use mathlib.Core.Path.{_≡_, refl, ap, sym, _∙_, fun-ext}
-use mathlib.Core.List.{List, [], _∷_, _++_, flatMap, append-assoc, append-nil}
-use lib.ListN.{length, take, drop, set, length-append, take-append-drop}
-use lib.Seq.{take-at, drop-append-add, drop-drop, length-take-le, set-split}
+use mathlib.Core.List.{List, [], _∷_, _++_, flatMap, append-nil}
+use lib.ListN.{length, set, length-append, take-append-drop}
 use Rattle.model.specs.declared.Time.{Time}
 use Rattle.model.specs.declared.Time.the-variants.{At, Never}
 use Rattle.model.specs.declared.Stage.{Stage}
@@ -24,34 +22,12 @@ use Rattle.model.specs.Records.{valueWidth, rowLength, rowBytes}
 use Rattle.model.specs.Rows.{rowOf, rowAt}
 use Rattle.model.specs.Calls.{termsOf}
 use Rattle.model.proofs.RowBytesLaws.{rows-length}
-use Rattle.model.proofs.WriteLaws.{written-length}
+use Rattle.model.proofs.ListLaws.{flatMap-append}
+use Rattle.model.proofs.WriteLaws.{written-length, written-more, written-one, written-put}
 use Rattle.evaluate.specs.Seen.{recordIn}
 use Rattle.report.specs.declared.rows.Agreement.{Agreement}
-use Rattle.report.specs.Shown.{rowIn, rowBy, withRows}
-
--- bytes put where a front ends
-over : (p rest cs : List ℕ) (n : ℕ) → length p ≡ n → written (p ++ rest) n cs ≡ p ++ (cs ++ drop (length cs) rest)
-unfolding written
-over p rest cs n e = rw (take-at p rest n e, ← e, drop-append-add p rest (length cs))
-
--- bytes put right behind those that were put
-more : (page : List ℕ) (at : ℕ) (bs cs : List ℕ) (n : ℕ) → n ≡ at + length bs → n ≤ length page
-    → written (written page at bs) n cs ≡ written page at (bs ++ cs)
-unfolding written
-more page at bs cs n e h =
-    let long : length (take at page ++ bs) ≡ n = simp (length-append, length-take-le at page (omega arith)) (sym e) in
-    ap (λ (l : List ℕ). written l n cs) (sym (append-assoc (take at page) bs (drop (at + length bs) page)))
-    ∙ over (take at page ++ bs) (drop (at + length bs) page) cs n long
-    ∙ simp (append-assoc, drop-drop, length-append, add-assoc)
-
--- one byte
-one : (page : List ℕ) (at b : ℕ) → at < length page → set page at b ≡ written page at (b ∷ [])
-unfolding written
-one page at b h = rw (set-split page at b h, add-one)
-
--- one byte right behind those that were put
-put : (page : List ℕ) (at : ℕ) (bs : List ℕ) (n b : ℕ) → n ≡ at + length bs → n < length page → set (written page at bs) n b ≡ written page at (bs ++ (b ∷ []))
-put page at bs n b e h = one (written page at bs) n b (rw (written-length page at bs (omega arith)) h) ∙ more page at bs (b ∷ []) n e (omega arith)
+use Rattle.report.specs.Shown.{rowBy, withRows}
+use Rattle.report.proofs.RowLaws.{rowIn}
 
 -- a number by its four bytes
 pub u32-by : (page : List ℕ) (at n : ℕ) → at + 4 ≤ length page
@@ -60,10 +36,10 @@ pub u32-by : (page : List ℕ) (at n : ℕ) → at + 4 ≤ length page
 unfolding bytesOf
 u32-by page at n h =
     rw (
-      one page at (n % 256) (omega arith),
-      put page at (n % 256 ∷ []) (at + 1) (n / 256 % 256) refl (omega arith),
-      put page at (n % 256 ∷ n / 256 % 256 ∷ []) (at + 2) (n / 65536 % 256) refl (omega arith),
-      put page at (n % 256 ∷ n / 256 % 256 ∷ n / 65536 % 256 ∷ []) (at + 3) (n / 16777216 % 256) refl (omega arith),
+      written-one page at (n % 256) (omega arith),
+      written-put page at (n % 256 ∷ []) (at + 1) (n / 256 % 256) refl (omega arith),
+      written-put page at (n % 256 ∷ n / 256 % 256 ∷ []) (at + 2) (n / 65536 % 256) refl (omega arith),
+      written-put page at (n % 256 ∷ n / 256 % 256 ∷ n / 65536 % 256 ∷ []) (at + 3) (n / 16777216 % 256) refl (omega arith),
       div-div-eq-div-mul n 256 256,
       div-div-eq-div-mul n 65536 256,
     )
@@ -84,12 +60,12 @@ row-by page at x h {stage} i a b d e =
       b,
       a,
       ← i,
-      one page at stage (omega arith),
-      put page at (stage ∷ []) (at + 1) (x .schema) refl (omega arith),
-      more page at (stage ∷ x .schema ∷ []) (bytesOf 4 (x .key)) (at + 2) refl (omega arith),
-      more page at (stage ∷ x .schema ∷ bytesOf 4 (x .key)) (bytesOf 4 (x .privileged)) (at + 2 + 4) (omega arith) (omega arith),
-      more page at (stage ∷ x .schema ∷ (bytesOf 4 (x .key) ++ bytesOf 4 (x .privileged))) (bytesOf 4 (x .liable)) (at + 2 + 8) (omega arith) (omega arith),
-      more page at (stage ∷ x .schema ∷ (bytesOf 4 (x .key) ++ (bytesOf 4 (x .privileged) ++ bytesOf 4 (x .liable)))) (bytesOf 4 (x .time)) (at + 2 + 12) (omega arith) (omega arith),
+      written-one page at stage (omega arith),
+      written-put page at (stage ∷ []) (at + 1) (x .schema) refl (omega arith),
+      written-more page at (stage ∷ x .schema ∷ []) (bytesOf 4 (x .key)) (at + 2) refl (omega arith),
+      written-more page at (stage ∷ x .schema ∷ bytesOf 4 (x .key)) (bytesOf 4 (x .privileged)) (at + 2 + 4) (omega arith) (omega arith),
+      written-more page at (stage ∷ x .schema ∷ (bytesOf 4 (x .key) ++ bytesOf 4 (x .privileged))) (bytesOf 4 (x .liable)) (at + 2 + 8) (omega arith) (omega arith),
+      written-more page at (stage ∷ x .schema ∷ (bytesOf 4 (x .key) ++ (bytesOf 4 (x .privileged) ++ bytesOf 4 (x .liable)))) (bytesOf 4 (x .time)) (at + 2 + 12) (omega arith) (omega arith),
     )
 
 -- no row
@@ -130,17 +106,11 @@ rows-bytes : (rows : List Row) → length (flatMap (rowBytes valueWidth) rows) �
 unfolding rowLength
 rows-bytes rows = rows-length valueWidth rows
 
--- the bytes of rows behind rows
-bytes-append : (a b : List Row) → flatMap (rowBytes valueWidth) (a ++ b) ≡ flatMap (rowBytes valueWidth) a ++ flatMap (rowBytes valueWidth) b
-unfolding flatMap
-bytes-append [] b = refl
-bytes-append (x ∷ a) b = rw (bytes-append a b) (sym (append-assoc (rowBytes valueWidth x) (flatMap (rowBytes valueWidth) a) (flatMap (rowBytes valueWidth) b)))
-
 -- rows put right behind those that were put
 rows-more : (page : List ℕ) (at : ℕ) (a b : List Row) (to : ℕ) → to ≡ at + 18 * length a → to ≤ length page
     → withRows (withRows page at a) to b ≡ withRows page at (a ++ b)
 unfolding withRows
-rows-more page at a b to e h = rw (bytes-append a b) (more page at (flatMap (rowBytes valueWidth) a) (flatMap (rowBytes valueWidth) b) to (omega (arith, rows-bytes a)) h)
+rows-more page at a b to e h = rw (flatMap-append (rowBytes valueWidth) a b) (written-more page at (flatMap (rowBytes valueWidth) a) (flatMap (rowBytes valueWidth) b) to (omega (arith, rows-bytes a)) h)
 
 -- rows that fit leave the page as long as it was
 rows-kept : (page : List ℕ) (at : ℕ) (rows : List Row) → at + 18 * length rows ≤ length page → length (withRows page at rows) ≡ length page

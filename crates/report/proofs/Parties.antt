@@ -1,6 +1,5 @@
 -- The row of a subject: key and parties are carried where refusal 3 does not hold.
 --     kind-is           the kind of a record is its first byte
---     key-known         each kind carries its key
 --     head-inside       the head of a schema is within the terms
 --     parties-asked     what the code asks of the parties' values
 --     row-is            the row by its values
@@ -26,24 +25,20 @@ use Rattle.model.specs.Calls.{termsOf}
 use Rattle.model.proofs.BoolLaws.{or-false}
 use Rattle.model.proofs.MemberLaws.{anyOf-none, numbers-mem}
 use Rattle.model.proofs.PlaceLaws.{byte-within}
-use Rattle.model.proofs.KindLaws.{key-carried, head-wrong-here}
+use Rattle.model.proofs.KindLaws.{head-wrong-here}
 use Rattle.model.proofs.WalkLaws.{kind-here}
 use Rattle.grammar.specs.Places.{noItems, Placed}
 use Rattle.terms.specs.declared.Fault.the-variants.{Field}
 use Rattle.terms.specs.Questions.{schemaHas}
 use Rattle.terms.proofs.Steps.{schema-here, subject-here}
 use Rattle.terms.proofs.Faults.{field-faults, field-here}
-use Rattle.log.specs.Holds.{Kinds, Stands, recordAt}
+use Rattle.log.specs.Holds.{Stands, recordAt}
 use Rattle.evaluate.specs.Seen.{recordIn}
 
 -- the record at a place is of the kind of its first byte
 pub kind-is : (terms log : List ℕ) (at : ℕ) {kind : ℕ} → byteAt log at ≡ kind → recordIn terms log at .kind ≡ kind
 unfolding recordIn
 kind-is terms log at e = kind-here valueWidth (termsOf terms) log at ∙ e
-
--- each kind carries its key
-pub key-known : (terms : List ℕ) {kinds : ℕ} → fieldWrong (fileOf terms) ≡ false → kinds ≡ length (fileOf terms .kinds) → Kinds terms kinds
-key-known terms right e = (e, λ k h. key-carried terms right k (rw e at h))
 
 module _ (terms starts : List ℕ) {kinds : ℕ} (n : ℕ) (placed : Placed terms kinds starts) (h : 3 * n < length starts) where
   -- the schema is there

@@ -4,9 +4,9 @@
 --     report-short       refused by 10
 --     report-written     the count, and the rows on the page
 -- Assumes nothing.
-use Prim.Native.Nat.{ℕ, zero, suc, _*_, _≤_, _<_}
+use Prim.Native.Nat.{ℕ, _*_, _≤_, _<_}
 use native.Mathlib.Omega.{arith}
-use mathlib.Core.Path.{_≡_, refl, sym}
+use mathlib.Core.Path.{_≡_, sym}
 use mathlib.Core.Bool.{false}
 use mathlib.Core.List.{List, _++_}
 use lib.Dec.{ltb}
@@ -20,9 +20,10 @@ use Rattle.model.specs.declared.Checked.the-variants as checkedCase
 use Rattle.model.specs.declared.Reported.the-variants as reportedCase
 use Rattle.model.specs.Answers.{refusalNumber, checkedAnswer, reportedAnswer}
 use Rattle.model.specs.Records.{valueWidth, rowLength}
-use Rattle.model.specs.Calls.{Check, refusal, logLimit, usedTooLong, logChecks, pageTooShort, pageChecks, checkLog, Outcome, outcome, unlessRefused, onPage, rowsOf, report}
+use Rattle.model.specs.Calls.{Check, refusal, logLimit, usedTooLong, logChecks, pageTooShort, pageChecks, checkLog, outcome, unlessRefused, onPage, rowsOf, report}
 use Rattle.model.proofs.BoolLaws.{or-false}
 use Rattle.model.proofs.AnswerLaws.{refusal-positive}
+use Rattle.model.proofs.WriteLaws.{refused-outcome}
 use Rattle.log.proofs.Checks.{used-inside}
 use Rattle.report.specs.Shown.{schemasFrom, withRows}
 use Rattle.report.proofs.RowLaws.{all-rows}
@@ -34,19 +35,13 @@ unfolding usedTooLong logLimit
 used-few log used e =
     omega (arith, ltb-false 32768 used (or-false (ltb 32768 used) (ltb (length log) used) e .0), length-take-le used log (used-inside log used e))
 
--- with a refusal no byte changes
-refused-as : (n : ℕ) (page : List ℕ) (o : Outcome) → 1 ≤ n → unlessRefused n page o ≡ outcome (record { number = n; value = 0 }) page
-unfolding unlessRefused
-refused-as zero page o h = absurd (omega arith)
-refused-as (suc n) page o h = refl
-
 module _ (terms log : List ℕ) (used m : ℕ) (page : List ℕ) where
   -- the refusals of call 2 come first
   pub report-refused : {found : Checked} {x : Refusal} → found ≡ checkedCase.Refused x → checkedAnswer found ≡ checkLog valueWidth terms log used
       → outcome (reportedAnswer (reportedCase.Refused x)) page ≡ report valueWidth terms log used m page
   unfolding reportedAnswer report onPage
   report-refused {found} {x} is e =
-      rw (log-refused terms log used is e (pageChecks valueWidth (rowsOf valueWidth terms log used m) page)) (sym (refused-as (refusalNumber x) page _ (refusal-positive x)))
+      rw (log-refused terms log used is e (pageChecks valueWidth (rowsOf valueWidth terms log used m) page)) (sym (refused-outcome (refusalNumber x) page _ (refusal-positive x)))
 
   module _ (kept : (more : List Check) → refusal (logChecks valueWidth terms log used ++ more) ≡ refusal more)
       {count : ℕ} (counted : count ≡ length (schemasFrom terms (take used log) m 0)) where

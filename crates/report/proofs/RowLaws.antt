@@ -1,54 +1,42 @@
 -- The rows of a report in the order in which they are counted and written: by schema, then by record, then by stage.
+--     rowIn                            the row of an entry
 --     is-subject                       whether a record is a subject
 --     record-other, record-shown       the rows of one record under a schema
 --     rows-step, rows-none             the rows of the records from a place on
 --     schemas-step, schemas-none       the rows of the schemas from a number on
---     schemas-count                    how many schemas there are
 --     all-rows                         these are the rows of call 4
 -- Assumes nothing.
 use Prim.Native.Nat.{ℕ, suc, _+_, _-_, _≤_, _<_}
 use native.Mathlib.Nat.{sub-zero}
 use native.Mathlib.Numerals.{add-one}
 use native.Mathlib.Omega.{arith}
-use mathlib.Core.Path.{_≡_, refl, ap, _∙_, fun-ext}
-use mathlib.Core.Bool.{Bool, true, false, cond}
-use mathlib.Core.List.{List, [], _∷_, _++_, flatMap, append-nil}
-use lib.Dec.{ltb, eqb}
-use lib.ListN.{length, take, drop, length-map}
+use mathlib.Core.Path.{_≡_, ap, _∙_}
+use mathlib.Core.List.{List, [], _++_, flatMap, append-nil}
+use lib.Dec.{eqb}
+use lib.ListN.{length, take, drop}
 use borrow.Author.Tests.{eq-eqb, ne-eqb}
 use Rattle.model.specs.declared.Time.{Time}
-use Rattle.model.specs.declared.Time.the-variants.{At, Never}
 use Rattle.model.specs.declared.Stage.{Stage}
 use Rattle.model.specs.declared.Stage.the-variants.{Created, Detached, Expired, Discharged, Violated}
 use Rattle.model.specs.declared.Entries.{Entries}
 use Rattle.model.specs.declared.Row.{Row}
 use Rattle.model.specs.Lists.{numbersFrom}
-use Rattle.model.specs.Time.{before}
 use Rattle.model.specs.Stages.{stages}
-use Rattle.model.specs.Terms.{Terms, schemaAt}
-use Rattle.model.specs.Log.{Record}
+use Rattle.model.specs.Terms.{schemaAt}
 use Rattle.model.specs.Bytes.{byteAt}
-use Rattle.model.specs.Grammar.{fileOf}
-use Rattle.model.specs.Fields.{schemaFrom, termsFrom}
-use Rattle.model.specs.Meaning.{stageTime}
 use Rattle.model.specs.Records.{valueWidth, recordsIn}
 use Rattle.model.specs.Rows.{rowOf, rowAt, isSubject, subjectRows, timedRows, strike, reportRows, entriesOf}
 use Rattle.model.specs.Calls.{termsOf, logOf, rowsOf}
 use Rattle.model.proofs.WalkLaws.{kind-here}
-use Rattle.model.proofs.StrikeLaws.{strike-append, strike-flatMap}
+use Rattle.model.proofs.StrikeLaws.{strike-append}
+use Rattle.model.proofs.RowLaws.{rowsAt, subjectRowsAt, strike-subject}
 use Rattle.log.proofs.Steps.{Step}
 use Rattle.evaluate.specs.Seen.{logIn, recordIn}
-use Rattle.report.specs.Shown.{entriesIn, rowIn, timely, recordRows, rowsFrom, schemasFrom}
+use Rattle.report.specs.Shown.{entriesIn, timely, recordRows, rowsFrom, schemasFrom}
 
--- a row stays where its time is before the moment
-timely-row : (terms : Terms) (m j : ℕ) (r : Record) (s : Stage) (t : Time) → timely m (rowAt (rowOf terms j r s) t) ≡ rowAt (rowOf terms j r s) (before m t)
-unfolding timely strike rowAt rowOf before
-timely-row terms m j r s (At n) = go (ltb n m)
-  where
-    go : (b : Bool) → cond b (rowOf terms j r s n ∷ []) [] ≡ rowAt (rowOf terms j r s) (cond b (At n) Never)
-    go true = refl
-    go false = refl
-timely-row terms m j r s Never = refl
+-- the row of a stage of the subject at a place, for a time or none
+unfoldable pub rowIn : List ℕ → List ℕ → ℕ → ℕ → Stage → Time → List Row
+rowIn terms log subject schema s t = rowAt (rowOf (termsOf terms) schema (recordIn terms log subject) s) t
 
 module _ (terms log : List ℕ) where
   -- whether a record is a subject, by its first byte
@@ -69,15 +57,10 @@ module _ (terms log : List ℕ) where
         ++ (rowIn terms log at schema Detached (e .detached)
         ++ (rowIn terms log at schema Expired (e .expired)
         ++ (rowIn terms log at schema Discharged (e .discharged) ++ rowIn terms log at schema Violated (e .violated))))
-    unfolding recordRows timely subjectRows rowIn entriesIn entriesOf stages flatMap
+    unfolding recordRows timely subjectRowsAt rowsAt rowIn entriesIn entriesOf stages flatMap
     record-shown is e =
-        let t = termsOf terms in
-        let r = recordIn terms log at in
-        let time : Stage → Time = λ s. stageTime t (logIn terms log) s schema r in
-        rw (is-subject schema at ∙ eq-eqb (byteAt log at) _ is, subjectRows, e)
-        (strike-flatMap (λ (x : Row). x .time) m (λ s. rowAt (rowOf t schema r s) (time s)) stages
-        ∙ ap (λ (f : Stage → List Row). flatMap f stages) (fun-ext λ s. timely-row t m schema r s (time s))
-        ∙ rw append-nil)
+        strike-subject (termsOf terms) (logIn terms log) m schema (recordIn terms log at)
+        ∙ rw (is-subject schema at ∙ eq-eqb (byteAt log at) _ is, subjectRowsAt, e, append-nil)
 
     -- the rows of the record at a place come before those of the records behind it
     pub rows-step : {end : ℕ} → Step (termsOf terms) log at end → rowsFrom terms log schema m at ≡ recordRows terms log schema m at ++ rowsFrom terms log schema m end
@@ -102,11 +85,6 @@ module _ (terms log : List ℕ) where
     pub schemas-none : length (termsOf terms .schemas) ≤ j → schemasFrom terms log m j ≡ []
     unfolding schemasFrom timely numbersFrom strike flatMap
     schemas-none h = let past : length (termsOf terms .schemas) - j ≡ 0 = omega arith in rw past
-
--- as many schemas as are read
-pub schemas-count : (terms : List ℕ) → length (termsOf terms .schemas) ≡ length (fileOf terms .schemas)
-unfolding termsOf termsFrom
-schemas-count terms = length-map (fileOf terms .schemas) schemaFrom
 
 -- the rows of call 4 are those of all schemas over the used bytes
 pub all-rows : (terms log : List ℕ) (used m : ℕ) → rowsOf valueWidth terms log used m ≡ schemasFrom terms (take used log) m 0

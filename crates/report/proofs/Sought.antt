@@ -5,9 +5,8 @@
 --     standing-refused, standing-past, standing-nobody, standing-shown
 --                                       the answer: refused as call 2, by 15, by 16, or the entries
 -- Assumes nothing.
-use Prim.Native.Nat.{ℕ, zero, suc, _≤_, _<_}
-use native.Mathlib.Omega.{arith}
-use mathlib.Core.Path.{_≡_, refl, sym, _∙_}
+use Prim.Native.Nat.{ℕ, _≤_, _<_}
+use mathlib.Core.Path.{_≡_, sym, _∙_}
 use mathlib.Core.Bool.{Bool, true, false}
 use mathlib.Core.List.{List, _++_}
 use mathlib.Core.Option.{some}
@@ -24,10 +23,11 @@ use Rattle.model.specs.Terms.{Terms, schemaAt}
 use Rattle.model.specs.Log.{Record, keyOf}
 use Rattle.model.specs.Bytes.{byteAt}
 use Rattle.model.specs.Records.{valueWidth, recordsIn}
-use Rattle.model.specs.Rows.{find, isSought, notYet}
+use Rattle.model.specs.Rows.{find, isSought}
 use Rattle.model.specs.Answers.{refusalNumber, checkedAnswer, standingAnswer}
 use Rattle.model.specs.Calls.{Check, refusal, termsOf, logOf, logChecks, checkLog, noSchema, missing, standingSubject, keyChecks, entriesFor, standingAs, standing}
 use Rattle.model.proofs.AnswerLaws.{refusal-positive}
+use Rattle.model.proofs.StandingLaws.{refused-entries}
 use Rattle.log.specs.Holds.{recordAt}
 use Rattle.log.proofs.Steps.{Step}
 use Rattle.evaluate.specs.Seen.{logIn, recordIn}
@@ -64,18 +64,12 @@ module _ {t : Terms} {log : List ℕ} {at end : ℕ} (here : Step t log at end) 
   unfolding find
   found-behind is = rw (here .records, sym e ∙ is)
 
--- with a refusal nothing is shown
-refused-as : (n : ℕ) (e : Entries) → 1 ≤ n → standingAs n e ≡ record { number = n; entries = notYet }
-unfolding standingAs
-refused-as zero e h = absurd (omega arith)
-refused-as (suc n) e h = refl
-
 module _ (terms log : List ℕ) (used schema key m : ℕ) where
   -- the refusals of call 2 come first
   pub standing-refused : {found : Checked} {x : Refusal} → found ≡ checkedCase.Refused x → checkedAnswer found ≡ checkLog valueWidth terms log used
       → standingAnswer (standingCase.Refused x) ≡ standing valueWidth terms log used schema key m
   unfolding standingAnswer standing
-  standing-refused {found} {x} is e = rw (log-refused terms log used is e (keyChecks valueWidth terms log used schema key m)) (sym (refused-as (refusalNumber x) _ (refusal-positive x)))
+  standing-refused {found} {x} is e = rw (log-refused terms log used is e (keyChecks valueWidth terms log used schema key m)) (sym (refused-entries (refusalNumber x) _ (refusal-positive x)))
 
   module _ (kept : (more : List Check) → refusal (logChecks valueWidth terms log used ++ more) ≡ refusal more) where
     -- past the last schema

@@ -4,14 +4,13 @@ use mathlib.Core.Path.{_≡_}
 use mathlib.Core.List.{List, flatMap}
 use mathlib.Core.Option.{none, some}
 use lib.ListN.{length, drop}
-use Rattle.model.specs.declared.Time.{Time}
 use Rattle.model.specs.declared.Stage.{Stage}
 use Rattle.model.specs.declared.Entries.{Entries}
 use Rattle.model.specs.declared.Row.{Row}
 use Rattle.model.specs.Lists.{numbersFrom}
 use Rattle.model.specs.Bytes.{written}
 use Rattle.model.specs.Records.{valueWidth, recordsIn, rowBytes}
-use Rattle.model.specs.Rows.{rowOf, rowAt, subjectRows, strike, subjectOf, entriesOf}
+use Rattle.model.specs.Rows.{subjectRows, strike, subjectOf, entriesOf}
 use Rattle.model.specs.Calls.{termsOf}
 use Rattle.log.specs.Holds.{Stands}
 use Rattle.evaluate.specs.Seen.{logIn, recordIn}
@@ -22,10 +21,6 @@ use Rattle.report.specs.declared.Place.the-variants as place
 -- the entries of the subject at a place (call 5)
 unfoldable pub entriesIn : List ℕ → List ℕ → ℕ → ℕ → ℕ → Entries
 entriesIn terms log subject schema m = entriesOf (termsOf terms) (logIn terms log) m schema (recordIn terms log subject)
-
--- the row of a stage of the subject at a place, for a time or none (call 4)
-unfoldable pub rowIn : List ℕ → List ℕ → ℕ → ℕ → Stage → Time → List Row
-rowIn terms log subject schema s t = rowAt (rowOf (termsOf terms) schema (recordIn terms log subject) s) t
 
 -- the row of a stage of an agreement, since a minute (call 4)
 unfoldable pub rowBy : Agreement → Stage → ℕ → Row

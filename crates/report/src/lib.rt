@@ -11,7 +11,6 @@ use model::Checked;
 use model::Refusal;
 use model::Reported;
 use model::Standing;
-use rows::ROW_LENGTH;
 use rows::count_rows;
 use rows::entries_of;
 use rows::write_rows;
@@ -28,6 +27,9 @@ ghost use Rattle.grammar.specs.Places.{Placed};
 ghost use Rattle.log.specs.Holds.{Stands};
 ghost use Rattle.evaluate.specs.Seen.{recordIn};
 ghost use Rattle.report.specs.Shown.{FoundAt};
+
+// How many bytes a row has.
+pub const ROW_LENGTH: usize = 18;
 
 // A place of the log, or none.
 enum Place {

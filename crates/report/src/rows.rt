@@ -1,4 +1,5 @@
 // The entries and the rows of subjects, schema by schema: counted, then written on a page.
+use crate::ROW_LENGTH;
 use evaluate::clause_times;
 use evaluate::norm_type;
 use fields::mask_of;
@@ -35,9 +36,6 @@ ghost use Rattle.grammar.specs.Places.{Placed};
 ghost use Rattle.log.specs.Holds.{Stands};
 ghost use Rattle.evaluate.specs.Seen.{recordIn};
 ghost use Rattle.report.specs.Shown.{entriesIn, rowBy, recordRows, rowsFrom, schemasFrom, withRows};
-
-// How many bytes a row has.
-pub const ROW_LENGTH: usize = 18;
 
 // What all rows of a subject under a schema have in common.
 pub struct Agreement {
@@ -137,7 +135,7 @@ fn count_schema(
 
 // How many rows a report has.
 pub fn count_rows(terms: &[u8], kinds: usize, starts: &[usize], log: &[u8], moment: u32) -> usize
-    requires { ⌜ Placed (now terms) kinds (now starts) × (length (now log) ≤ 32768) × (length (now starts) ≤ 48) ⌝ }
+    requires { ⌜ Placed (now terms) kinds (now starts) × (length (now log) ≤ 32768) ⌝ }
     ensures { λ r. ⌜ (r ≡ length (schemasFrom (now (terms .entry)) (now (log .entry)) moment 0)) × (r ≤ 16 * 32768) ⌝ }
 {
     let mut count: usize = 0;
@@ -158,7 +156,7 @@ fn agreement_of(
     subject: usize,
     schema: usize,
 ) -> Agreement
-    requires { ⌜ Placed (now terms) kinds (now starts) × (3 * schema < length (now starts)) × (length (now starts) ≤ 48) × Stands (termsOf (now terms)) (now log) subject × (fieldWrong (fileOf (now terms)) ≡ false) × (recordIn (now terms) (now log) subject .kind ≡ schemaAt (termsOf (now terms)) schema .subject) ⌝ }
+    requires { ⌜ Placed (now terms) kinds (now starts) × (3 * schema < length (now starts)) × Stands (termsOf (now terms)) (now log) subject × (fieldWrong (fileOf (now terms)) ≡ false) × (recordIn (now terms) (now log) subject .kind ≡ schemaAt (termsOf (now terms)) schema .subject) ⌝ }
     ensures { λ r. ⌜ ((s : Stage) (t : ℕ) → rowBy r s t ≡ rowOf (termsOf (now (terms .entry))) schema (recordIn (now (terms .entry)) (now (log .entry)) subject) s t) ⌝ }
 {
     let mask = mask_of(terms, kinds, log[subject]);
@@ -228,7 +226,7 @@ fn write_record(
     page: &mut [u8],
     to: usize,
 ) -> usize
-    requires { ⌜ Placed (now terms) kinds (now starts) × (3 * schema < length (now starts)) × (length (now starts) ≤ 48) × Stands (termsOf (now terms)) (now log) at × (fieldWrong (fileOf (now terms)) ≡ false) × (to + 18 * length (recordRows (now terms) (now log) schema moment at) ≤ length (now page)) ⌝ }
+    requires { ⌜ Placed (now terms) kinds (now starts) × (3 * schema < length (now starts)) × Stands (termsOf (now terms)) (now log) at × (fieldWrong (fileOf (now terms)) ≡ false) × (to + 18 * length (recordRows (now terms) (now log) schema moment at) ≤ length (now page)) ⌝ }
     ensures { λ r. ⌜ (r ≡ to + 18 * length (recordRows (now (terms .entry)) (now (log .entry)) schema moment at)) × (now (page .exit) ≡ withRows (now (page .entry)) to (recordRows (now (terms .entry)) (now (log .entry)) schema moment at)) ⌝ }
 {
     if log[at] != subject_of(terms, kinds, starts, schema) {
@@ -259,7 +257,7 @@ fn write_schema(
     page: &mut [u8],
     from: usize,
 ) -> usize
-    requires { ⌜ Placed (now terms) kinds (now starts) × (3 * schema < length (now starts)) × (length (now starts) ≤ 48) × (fieldWrong (fileOf (now terms)) ≡ false) × (from + 18 * length (rowsFrom (now terms) (now log) schema moment 0) ≤ length (now page)) ⌝ }
+    requires { ⌜ Placed (now terms) kinds (now starts) × (3 * schema < length (now starts)) × (fieldWrong (fileOf (now terms)) ≡ false) × (from + 18 * length (rowsFrom (now terms) (now log) schema moment 0) ≤ length (now page)) ⌝ }
     ensures { λ r. ⌜ (r ≡ from + 18 * length (rowsFrom (now (terms .entry)) (now (log .entry)) schema moment 0)) × (now (page .exit) ≡ withRows (now (page .entry)) from (rowsFrom (now (terms .entry)) (now (log .entry)) schema moment 0)) ⌝ }
 {
     let mut to = from;
@@ -283,7 +281,7 @@ pub fn write_rows(
     moment: u32,
     page: &mut [u8],
 )
-    requires { ⌜ Placed (now terms) kinds (now starts) × (length (now starts) ≤ 48) × (fieldWrong (fileOf (now terms)) ≡ false) × (18 * length (schemasFrom (now terms) (now log) moment 0) ≤ length (now page)) ⌝ }
+    requires { ⌜ Placed (now terms) kinds (now starts) × (fieldWrong (fileOf (now terms)) ≡ false) × (18 * length (schemasFrom (now terms) (now log) moment 0) ≤ length (now page)) ⌝ }
     ensures { λ _. ⌜ now (page .exit) ≡ withRows (now (page .entry)) 0 (schemasFrom (now (terms .entry)) (now (log .entry)) moment 0) ⌝ }
 {
     let mut to: usize = 0;

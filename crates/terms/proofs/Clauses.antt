@@ -13,7 +13,7 @@ use mathlib.Core.List.{List}
 use mathlib.Core.Option.{some}
 use lib.ListN.{length, take, drop}
 use Rattle.model.specs.Lists.{anyOf}
-use Rattle.model.specs.Terms.{leaf, always, leaves}
+use Rattle.model.specs.Terms.{leaves}
 use Rattle.model.specs.Bytes.{byteAt}
 use Rattle.model.specs.Grammar.{size, readExpr}
 use Rattle.model.specs.Calls.{termsOf}

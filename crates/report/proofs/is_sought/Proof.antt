@@ -6,7 +6,7 @@ use Rattle.model.specs.Terms.{schemaAt}
 use Rattle.model.specs.Bytes.{byteAt}
 use Rattle.model.specs.Records.{recordLength}
 use Rattle.model.specs.Calls.{termsOf}
-use Rattle.model.proofs.KindLaws.{key-carried}
+use Rattle.log.proofs.Checks.{kinds-known}
 use Rattle.log.proofs.Steps.{stands-inside}
 use Rattle.report.proofs.Sought.{sought-other, sought-key, sought-stamp}
 use Rattle.report.proofs.is_sought.Statement.{statement}
@@ -21,7 +21,7 @@ returns c =
 key-at-requires : tie.Need-key-at-requires
 key-at-requires c κs =
     let start = c .before .before .before .before .before .before in
-    ((start .pre .0 .0, λ k h. key-carried (start .args .terms .now) (start .pre .2) k (omega (arith, start .pre .0 .0))), start .pre .1)
+    (kinds-known (start .args .terms .now) (start .pre .2) (start .pre .0 .0), start .pre .1)
 
 -- the record is of the kind
 same-kind : (c : tie.Else1) → let a = c .before .before .before .before .before .before .args in byteAt (a .log .now) (a .at) ≡ schemaAt (termsOf (a .terms .now)) (a .schema) .subject

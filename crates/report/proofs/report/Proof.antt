@@ -37,11 +37,8 @@ room : (c : tie.After-read-layout) → 3 * c .read-layout .result .schemas ≤ l
 room c = omega (arith, long c, layout-few _ _ (c .read-layout .ensures))
 
 -- these are the places of the terms
-placed : (c : tie.After-read-layout) → let x = c .read-layout .result in
-    Placed (c .before .before .before .before .args .terms .now) (x .kinds) (take (3 * x .schemas) (x .starts)) × (length (take (3 * x .schemas) (x .starts)) ≤ 48)
-placed c =
-    let x = c .read-layout .result in
-    (layout-placed _ _ (c .read-layout .ensures) (long c), omega (arith, long c, room c, length-take-le (3 * x .schemas) (x .starts) (room c)))
+placed : (c : tie.After-read-layout) → let x = c .read-layout .result in Placed (c .before .before .before .before .args .terms .now) (x .kinds) (take (3 * x .schemas) (x .starts))
+placed c = layout-placed _ _ (c .read-layout .ensures) (long c)
 
 slice-aggregate-records : tie.Need-slice-aggregate-records
 slice-aggregate-records c =
@@ -49,7 +46,7 @@ slice-aggregate-records c =
     sym (length-take-le (a .used) (a .log .now) (used-inside (a .log .now) (a .used) (kept (c .before .before) .0 .used-fits)))
 
 count-rows-requires : tie.Need-count-rows-requires
-count-rows-requires c κs = let p = placed (c .before .before .before .before .before .before .before) in (p .0, used-few _ _ (kept (c .before .before) .0 .used-fits), p .1)
+count-rows-requires c κs = let p = placed (c .before .before .before .before .before .before .before) in (p, used-few _ _ (kept (c .before .before) .0 .used-fits))
 
 returns-2 : tie.Need-returns-2
 returns-2 c =
@@ -59,7 +56,7 @@ returns-2 c =
 write-rows-requires : tie.Need-write-rows-requires
 write-rows-requires c κs =
     let p = placed (c .before .before .before .before .before .before .before .before .before .before) in
-    (p .0, p .1, kept (c .before .before .before .before .before) .0 .terms-ok .fields, omega (arith, c .before .if1 .left, c .before .before .count-rows .ensures .0))
+    (p, kept (c .before .before .before .before .before) .0 .terms-ok .fields, omega (arith, c .before .if1 .left, c .before .before .count-rows .ensures .0))
 
 returns-3 : tie.Need-returns-3
 returns-3 c =

@@ -1,20 +1,13 @@
 -- `violated` meets its contract: type by type. Assumes nothing.
 use borrow.Author.Needs.{needs}
 use Rattle.model.specs.Meaning.{stageFrom}
+use Rattle.times.proofs.StageLaws.{violated-unmet, violated-done}
 use Rattle.times.proofs.violated.Statement.{statement}
 use Rattle.times.proofs.violated.Tie as tie
-
-returns : tie.Need-returns
-unfolding stageFrom
-returns c = cc
 
 returns-2 : tie.Need-returns-2
 unfolding stageFrom
 returns-2 c = search needs
-
-returns-3 : tie.Need-returns-3
-unfolding stageFrom
-returns-3 c = cc
 
 returns-4 : tie.Need-returns-4
 unfolding stageFrom
@@ -31,7 +24,7 @@ violated-spec =
     (λ c. search needs)
     (λ c κs. search needs)
     (λ c. search needs)
-    returns
+    (λ c. search (violated-unmet, needs))
     returns-2
-    returns-3
+    (λ c. search (violated-done, needs))
     returns-4)

@@ -6,7 +6,8 @@ use borrow.Author.Tests.{not-true, not-false}
 use Rattle.model.proofs.Equation.{rank-least}
 use Rattle.terms.proofs.rank.Reads as rank
 use Rattle.log.proofs.stamp_at.Reads as stamp-at
-use Rattle.evaluate.proofs.Scan.{stands-stamped, happens-not, happens-kind, happens-above, happens-stage}
+use Rattle.log.proofs.Steps.{stands-stamped}
+use Rattle.evaluate.proofs.Scan.{happens-not, happens-kind, happens-above, happens-stage}
 use Rattle.evaluate.proofs.correlates.Reads as correlates
 use Rattle.evaluate.proofs.stage_time.Reads as stage-time
 use Rattle.evaluate.proofs.happening.Reads as happening

@@ -14,6 +14,12 @@ use Rattle.evaluate.proofs.+clause_times+failure+first+first_within+hap
 abbrev claims : ℕ → lts.Claims
 claims t = (known-bound-below t, known-bound.Post, reached.Asked, reached.Learnt, first-within-below t, first-within.Post, later-of.Asked, later-of.Learnt)
 
+-- nothing is before the upper bound
+empty : (t : ℕ) → lts.Need-returns-3 (claims t) (leaf-failure-entry t) leaf-failure.Post
+empty t c =
+    fails-empty _ _ _ _ _ (c .before .before .before .before .before .before .before .before .before .before .before .known-bound .ensures) (c .before .before .before .before .before .before .before .before .before .to .given .1) (c .before .before .before .before .before .before .before .reached .ensures) (c .before .before .before .before .before .r .given .1)
+    (c .before .before .before .first-within .ensures) (c .before .enum-told4 .given .1) (c .later-of .ensures)
+
 -- something is before the upper bound, nothing in the window
 missed : (t : ℕ) → lts.Need-returns-6 (claims t) (leaf-failure-entry t) leaf-failure.Post
 missed t c =
@@ -37,7 +43,7 @@ leaf-failure-closed t = lts.spec (claims t) (leaf-failure-entry t) leaf-failure.
     (λ c. search needs)
     (λ c. search needs)
     (λ c κs. search needs)
-    (λ c. search (fails-empty, needs))
+    (empty t)
     (λ c κs. search needs)
     (λ c. search needs)
     (λ c. search needs)

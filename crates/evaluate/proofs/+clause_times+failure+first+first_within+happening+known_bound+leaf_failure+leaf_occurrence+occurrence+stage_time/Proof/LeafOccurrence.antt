@@ -13,6 +13,12 @@ use Rattle.evaluate.proofs.+clause_times+failure+first+first_within+hap
 abbrev claims : ℕ → lts.Claims
 claims t = (known-bound-below t, known-bound.Post, first-within-below t, first-within.Post, later-of.Asked, later-of.Learnt)
 
+-- both bounds are known
+occurs-then : (t : ℕ) → lts.Need-returns-3 (claims t) (leaf-occurrence-entry t) leaf-occurrence.Post
+occurs-then t c =
+    occurs _ _ _ _ _ (c .before .before .before .before .before .before .before .before .before .before .known-bound .ensures) (c .before .before .before .before .before .before .before .before .from .given .1) (c .before .before .before .before .before .before .known-bound2 .ensures) (c .before .before .before .before .to .given .1)
+    (c .before .before .first-within .ensures) (c .before .later-of .ensures) (c .later-of2 .ensures)
+
 pub leaf-occurrence-closed : {M : Type 1} (t : ℕ) → lts.Closed (claims t) (leaf-occurrence-entry t) leaf-occurrence.Post M
 leaf-occurrence-closed t = lts.spec (claims t) (leaf-occurrence-entry t) leaf-occurrence.Post
     (λ c κs. search needs)
@@ -26,4 +32,4 @@ leaf-occurrence-closed t = lts.spec (claims t) (leaf-occurrence-entry t) leaf-oc
     (λ c κs. search needs)
     (λ c κs. search needs)
     (λ c κs. search needs)
-    (λ c. search (occurs, needs))
+    (occurs-then t)

@@ -7,10 +7,6 @@ use Rattle.model.specs.declared.Stage.{Stage}
 use Rattle.model.specs.declared.Stage.the-variants.{Created, Detached, Expired, Discharged, Violated}
 use Rattle.model.specs.declared.NormType.{NormType}
 use Rattle.model.specs.Terms.{rank}
-use Rattle.model.specs.Bytes.{byteAt}
-use Rattle.model.specs.Records.{valueWidth}
-use Rattle.model.specs.Calls.{termsOf}
-use Rattle.model.proofs.RecordLaws.{record-long}
 use Rattle.log.proofs.stamp_at.Reads as stamp-at
 use Rattle.times.specs.declared.Part.{Part}
 use Rattle.times.specs.declared.Part.the-variants.{Neither, Occurrence, Failure, Both}
@@ -18,6 +14,7 @@ use Rattle.times.specs.Parts.{detachPart, consequentPart}
 use Rattle.times.proofs.consequent_part.Reads as consequent-part
 use Rattle.times.proofs.detach_part.Reads as detach-part
 use Rattle.times.proofs.stage_from.Reads as stage-from
+use Rattle.log.proofs.Steps.{stands-stamped}
 use Rattle.evaluate.proofs.Expressions.{stage-here}
 use Rattle.evaluate.proofs.norm_type.Reads as norm-type
 use Rattle.evaluate.proofs.clause_times.Reads as clause-times
@@ -81,9 +78,7 @@ consequent-asks t c κs =
     (rw (c .before .before .consequent-part .ensures) (omega (arith, below)), (a .pre .1 .0, omega arith, a .pre .1 .2))
 
 stamp-asks : (t : ℕ) → lts.Need-stamp-at-requires (claims t) (stage-time-entry t) stage-time.Post
-stamp-asks t c κs =
-    let a = c .before .before .before .before .before .before .before .before .before in
-    omega (arith, a .pre .1 .2 .1, record-long valueWidth (termsOf (a .args .terms .now)) (byteAt (a .args .log .now) (a .args .subject)))
+stamp-asks t c κs = let a = c .before .before .before .before .before .before .before .before .before in stands-stamped _ (a .args .log .now) (a .args .subject) (a .pre .1 .2)
 
 returns : (t : ℕ) → lts.Need-returns (claims t) (stage-time-entry t) stage-time.Post
 returns t c =

@@ -8,9 +8,11 @@ use borrow.Author.Needs.{needs}
 use Rattle.model.specs.Log.{carries, carried}
 use Rattle.model.specs.Bytes.{byteAt}
 use Rattle.model.specs.Records.{valueWidth}
+use Rattle.terms.proofs.Faults.{placed-few}
+use Rattle.log.proofs.Checks.{kinds-known}
 use Rattle.log.proofs.Steps.{stands-inside}
 use Rattle.report.specs.Shown.{rowBy}
-use Rattle.report.proofs.Parties.{key-known, head-inside, parties-asked, row-is}
+use Rattle.report.proofs.Parties.{head-inside, parties-asked, row-is}
 use Rattle.report.proofs.rows.agreement_of.Statement.{statement}
 use Rattle.report.proofs.rows.agreement_of.Tie as tie
 
@@ -18,7 +20,7 @@ head-at-requires : tie.Need-head-at-requires
 head-at-requires c κs = let start = c .before .before .before .before .before in (start .pre .1, head-inside (start .args .terms .now) (start .args .starts .now) (start .args .schema) (start .pre .0) (start .pre .1) .0)
 
 key-at-requires : tie.Need-key-at-requires
-key-at-requires c κs = let start = c .before .before .before .before .before .before in (key-known (start .args .terms .now) (start .pre .4) (start .pre .0 .0), start .pre .3)
+key-at-requires c κs = let start = c .before .before .before .before .before .before in (kinds-known (start .args .terms .now) (start .pre .3) (start .pre .0 .0), start .pre .2)
 
 -- the head is within the terms
 inside : (c : tie.After-head-at) → c .head-at .result + 4 ≤ length (c .before .before .before .before .before .before .args .terms .now)
@@ -35,7 +37,7 @@ unfolding byteAt
 asked c =
     let start = c .before .before .before .before .before .before in
     parties-asked (start .args .terms .now) (start .args .starts .now) (start .args .schema) (start .pre .0) (start .pre .1)
-    (start .args .log .now) (start .args .subject) (start .pre .3) (start .pre .5) (start .pre .4) (c .before .mask-of .ensures) (c .head-at .ensures)
+    (start .args .log .now) (start .args .subject) (start .pre .2) (start .pre .4) (start .pre .3) (c .before .mask-of .ensures) (c .head-at .ensures)
 
 value-at-requires : tie.Need-value-at-requires
 unfolding byteAt
@@ -52,17 +54,17 @@ returns c s t =
     let start = head .before .before .before .before .before .before in
     let mask = sym (head .before .mask-of .ensures) in
     row-is (start .args .terms .now) (start .args .starts .now) (start .args .schema) (start .pre .0) (start .pre .1)
-    (start .args .log .now) (start .args .subject) (start .pre .3) (start .pre .5) (head .head-at .ensures)
+    (start .args .log .now) (start .args .subject) (start .pre .2) (start .pre .4) (head .head-at .ensures)
     (c .before .before .before .before .key-at .ensures) (c .before .before .value-at .ensures _ mask) (c .value-at2 .ensures _ mask) s t
 
 pub agreement-of-spec : {M : Type 1} → statement M
 agreement-of-spec =
     tie.close
     (tie.spec
-    (λ c. let start = c .before .before .before .before in stands-inside _ (start .args .log .now) (start .args .subject) (start .pre .3))
+    (λ c. let start = c .before .before .before .before in stands-inside _ (start .args .log .now) (start .args .subject) (start .pre .2))
     (λ c κs. search needs)
     head-at-requires
-    (λ c. search needs)
+    (λ c. let start = c .before .before .before .before .before .before in omega (arith, placed-few (start .args .terms .now) (start .args .starts .now) (start .pre .0)))
     key-at-requires
     (λ c. omega (arith, inside (c .before)))
     (λ c. omega (arith, inside (c .before .before)))

@@ -15,8 +15,8 @@ use Rattle.model.specs.Rows.{rowOf, rowAt}
 use Rattle.model.specs.Calls.{termsOf}
 use Rattle.log.proofs.Steps.{stands-inside}
 use Rattle.evaluate.specs.Seen.{recordIn}
-use Rattle.report.specs.Shown.{entriesIn, rowIn, recordRows}
-use Rattle.report.proofs.RowLaws.{record-other, record-shown}
+use Rattle.report.specs.Shown.{entriesIn, recordRows}
+use Rattle.report.proofs.RowLaws.{rowIn, record-other, record-shown}
 use Rattle.report.proofs.rows.count_record.Statement.{statement}
 use Rattle.report.proofs.rows.count_record.Tie as tie
 

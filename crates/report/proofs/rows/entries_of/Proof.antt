@@ -8,8 +8,8 @@ use Rattle.model.specs.declared.Stage.{Stage}
 use Rattle.model.specs.declared.Stage.the-variants.{Created, Detached, Expired, Discharged, Violated}
 use Rattle.model.specs.Time.{laterOf, before}
 use Rattle.model.specs.Meaning.{stageFrom}
+use Rattle.log.proofs.Steps.{stands-stamped}
 use Rattle.evaluate.specs.Seen.{stageIn}
-use Rattle.evaluate.proofs.Scan.{stands-stamped}
 use Rattle.report.proofs.Entries.{entry-here, entries-here}
 use Rattle.report.proofs.rows.entries_of.Statement.{statement}
 use Rattle.report.proofs.rows.entries_of.Tie as tie

@@ -32,7 +32,7 @@ unfolding byteAt
 is c = c .before .if1 .left ∙ c .before .before .subject-of .ensures
 
 agreement-of-requires : tie.Need-agreement-of-requires
-agreement-of-requires c κs = let p = c .before .before .before .before .before .before .before .before .pre in (p .0, p .1, p .2, p .3, p .4, kind-is _ _ _ (is c))
+agreement-of-requires c κs = let p = c .before .before .before .before .before .before .before .before .pre in (p .0, p .1, p .2, p .3, kind-is _ _ _ (is c))
 
 -- the rows of an entry
 abbrev rows : tie.After-agreement-of → Stage → Time → List Row
@@ -66,7 +66,7 @@ all c =
 
 -- those that are left before and behind each call
 left : (c : tie.After-agreement-of) → let a = c .before .before .before .before .before .before .before .before .before .args in LeftFor c (a .page .now) (a .to) (recordRows (a .terms .now) (a .log .now) (a .schema) (a .moment) (a .at))
-left c = left-all _ _ _ (c .before .before .before .before .before .before .before .before .before .pre .5)
+left c = left-all _ _ _ (c .before .before .before .before .before .before .before .before .before .pre .4)
 
 left-2 : (c : tie.After-write-entry) → LeftFor (c .before .before) (c .write-entry .last .0) (c .write-entry .result) (behind (c .before .before))
 left-2 c = left-next (left (c .before .before)) _ _ (all (c .before .before)) (c .write-entry .ensures .0) (c .write-entry .ensures .1)
@@ -89,7 +89,7 @@ pub write-record-spec : {M : Type 1} → statement M
 write-record-spec =
     tie.close
     (tie.spec
-    (λ c. let start = c .before .before .before .before .before in stands-inside _ (start .args .log .now) (start .args .at) (start .pre .3))
+    (λ c. let start = c .before .before .before .before .before in stands-inside _ (start .args .log .now) (start .args .at) (start .pre .2))
     (λ c κs. search needs)
     returns
     (λ c κs. search needs)

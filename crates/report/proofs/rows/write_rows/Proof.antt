@@ -4,7 +4,8 @@ use native.Mathlib.Omega.{arith}
 use lib.ListN.{length}
 use Rattle.model.specs.Calls.{termsOf}
 use Rattle.report.specs.Shown.{rowsFrom, schemasFrom}
-use Rattle.report.proofs.RowLaws.{schemas-step, schemas-none, schemas-count}
+use Rattle.terms.proofs.Faults.{schemas-count}
+use Rattle.report.proofs.RowLaws.{schemas-step, schemas-none}
 use Rattle.report.proofs.Pages.{Left, left-all, left-room, left-next, left-end}
 use Rattle.report.proofs.rows.write_rows.Statement.{statement}
 use Rattle.report.proofs.rows.write_rows.Tie as tie
@@ -26,7 +27,7 @@ write-schema-requires c κs =
     let start = l .before .before .before .before .before in
     let p = start .pre in
     let a = start .args in
-    (p .0, c .before .loop-test .taken, p .1, p .2, left-room (l .loop .inv .0) (rowsFrom (a .terms .now) (a .log .now) (l .loop .schema) (a .moment) 0) _ (schemas-step (a .terms .now) (a .log .now) (a .moment) (l .loop .schema) (there (c .before))))
+    (p .0, c .before .loop-test .taken, p .1, left-room (l .loop .inv .0) (rowsFrom (a .terms .now) (a .log .now) (l .loop .schema) (a .moment) 0) _ (schemas-step (a .terms .now) (a .log .now) (a .moment) (l .loop .schema) (there (c .before))))
 
 loop-again : tie.Need-loop-again Inv-loop μ-loop
 loop-again c =
@@ -50,7 +51,7 @@ write-rows-spec =
     (tie.spec
     Inv-loop
     μ-loop
-    (λ c. (left-all _ _ _ (omega (arith, c .before .before .before .before .pre .3)), omega arith))
+    (λ c. (left-all _ _ _ (omega (arith, c .before .before .before .before .pre .2)), omega arith))
     (λ c. omega arith)
     write-schema-requires
     (λ c. omega arith)

@@ -37,7 +37,7 @@ write-record-requires c κs =
     let start = l .before .before .before .before .before in
     let p = start .pre in
     let a = start .args in
-    (p .0, p .1, p .2, here (c .before) .stands, p .3, left-room (l .loop .inv) (recordRows (a .terms .now) (a .log .now) (a .schema) (a .moment) (l .loop .at)) _ (rows-step (a .terms .now) (a .log .now) (a .schema) (a .moment) (l .loop .at) (here (c .before))))
+    (p .0, p .1, here (c .before) .stands, p .2, left-room (l .loop .inv) (recordRows (a .terms .now) (a .log .now) (a .schema) (a .moment) (l .loop .at)) _ (rows-step (a .terms .now) (a .log .now) (a .schema) (a .moment) (l .loop .at) (here (c .before))))
 
 loop-again : tie.Need-loop-again Inv-loop μ-loop
 loop-again c =
@@ -57,7 +57,7 @@ write-schema-spec =
     (tie.spec
     Inv-loop
     μ-loop
-    (λ c. left-all _ _ _ (c .before .before .before .before .pre .4))
+    (λ c. left-all _ _ _ (c .before .before .before .before .pre .3))
     (λ c κs. search needs)
     (λ c. search needs)
     (λ c. search needs)
