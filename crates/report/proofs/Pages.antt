@@ -27,7 +27,7 @@ use Rattle.model.proofs.WriteLaws.{written-length, written-more, written-one, w
 use Rattle.evaluate.specs.Seen.{recordIn}
 use Rattle.report.specs.declared.rows.Agreement.{Agreement}
 use Rattle.report.specs.Shown.{rowBy, withRows}
-use Rattle.report.proofs.RowLaws.{rowIn}
+use Rattle.report.proofs.RowSteps.{rowIn}
 
 -- a number by its four bytes
 pub u32-by : (page : List ℕ) (at n : ℕ) → at + 4 ≤ length page

@@ -26,7 +26,7 @@ use Rattle.model.proofs.AnswerLaws.{refusal-positive}
 use Rattle.model.proofs.WriteLaws.{refused-outcome}
 use Rattle.log.proofs.Checks.{used-inside}
 use Rattle.report.specs.Shown.{schemasFrom, withRows}
-use Rattle.report.proofs.RowLaws.{all-rows}
+use Rattle.report.proofs.RowSteps.{all-rows}
 use Rattle.report.proofs.Accepted.{log-refused}
 
 -- a used length that is kept is within the limit, and so are the used bytes

@@ -33,7 +33,7 @@ use Rattle.log.proofs.Steps.{Step}
 use Rattle.evaluate.specs.Seen.{logIn, recordIn}
 use Rattle.report.specs.declared.Place.the-variants as place
 use Rattle.report.specs.Shown.{entriesIn, FoundAt}
-use Rattle.report.proofs.RowLaws.{is-subject}
+use Rattle.report.proofs.RowSteps.{is-subject}
 use Rattle.report.proofs.Accepted.{log-refused}
 
 module _ (terms log : List ℕ) (schema key m at : ℕ) where

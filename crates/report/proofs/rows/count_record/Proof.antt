@@ -16,7 +16,7 @@ use Rattle.model.specs.Calls.{termsOf}
 use Rattle.log.proofs.Steps.{stands-inside}
 use Rattle.evaluate.specs.Seen.{recordIn}
 use Rattle.report.specs.Shown.{entriesIn, recordRows}
-use Rattle.report.proofs.RowLaws.{rowIn, record-other, record-shown}
+use Rattle.report.proofs.RowSteps.{rowIn, record-other, record-shown}
 use Rattle.report.proofs.rows.count_record.Statement.{statement}
 use Rattle.report.proofs.rows.count_record.Tie as tie
 

@@ -7,7 +7,7 @@ use borrow.Author.Needs.{needs}
 use lib.ListN.{length, length-append}
 use Rattle.report.specs.Shown.{schemasFrom}
 use Rattle.terms.proofs.Faults.{schemas-count, placed-few}
-use Rattle.report.proofs.RowLaws.{schemas-step, schemas-none}
+use Rattle.report.proofs.RowSteps.{schemas-step, schemas-none}
 use Rattle.report.proofs.rows.count_rows.Statement.{statement}
 use Rattle.report.proofs.rows.count_rows.Tie as tie
 

@@ -10,7 +10,7 @@ use Rattle.model.specs.Calls.{termsOf}
 use Rattle.model.proofs.WalkLaws.{walk-end}
 use Rattle.log.proofs.Steps.{Step, step, stop}
 use Rattle.report.specs.Shown.{rowsFrom}
-use Rattle.report.proofs.RowLaws.{rows-step, rows-none}
+use Rattle.report.proofs.RowSteps.{rows-step, rows-none}
 use Rattle.report.proofs.rows.count_schema.Statement.{statement}
 use Rattle.report.proofs.rows.count_schema.Tie as tie
 

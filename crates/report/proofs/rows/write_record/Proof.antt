@@ -14,7 +14,7 @@ use Rattle.model.specs.Rows.{rowAt}
 use Rattle.model.specs.Calls.{termsOf}
 use Rattle.log.proofs.Steps.{stands-inside}
 use Rattle.report.specs.Shown.{rowBy, recordRows}
-use Rattle.report.proofs.RowLaws.{record-other, record-shown}
+use Rattle.report.proofs.RowSteps.{record-other, record-shown}
 use Rattle.report.proofs.Pages.{no-rows, row-whose, Left, left-all, left-room, left-next, left-end}
 use Rattle.report.proofs.Parties.{kind-is}
 use Rattle.report.proofs.rows.write_record.Statement.{statement}

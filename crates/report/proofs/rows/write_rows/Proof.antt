@@ -5,7 +5,7 @@ use lib.ListN.{length}
 use Rattle.model.specs.Calls.{termsOf}
 use Rattle.report.specs.Shown.{rowsFrom, schemasFrom}
 use Rattle.terms.proofs.Faults.{schemas-count}
-use Rattle.report.proofs.RowLaws.{schemas-step, schemas-none}
+use Rattle.report.proofs.RowSteps.{schemas-step, schemas-none}
 use Rattle.report.proofs.Pages.{Left, left-all, left-room, left-next, left-end}
 use Rattle.report.proofs.rows.write_rows.Statement.{statement}
 use Rattle.report.proofs.rows.write_rows.Tie as tie

@@ -8,7 +8,7 @@ use Rattle.model.specs.Calls.{termsOf}
 use Rattle.model.proofs.WalkLaws.{walk-end}
 use Rattle.log.proofs.Steps.{Step, step, stop}
 use Rattle.report.specs.Shown.{recordRows, rowsFrom}
-use Rattle.report.proofs.RowLaws.{rows-step, rows-none}
+use Rattle.report.proofs.RowSteps.{rows-step, rows-none}
 use Rattle.report.proofs.Pages.{Left, left-all, left-room, left-next, left-end}
 use Rattle.report.proofs.rows.write_schema.Statement.{statement}
 use Rattle.report.proofs.rows.write_schema.Tie as tie
