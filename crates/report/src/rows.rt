@@ -38,7 +38,7 @@ ghost use Rattle.evaluate.specs.Seen.{recordIn};
 ghost use Rattle.report.specs.Shown.{entriesIn, rowBy, recordRows, rowsFrom, schemasFrom, withRows};
 
 // What all rows of a subject under a schema have in common.
-pub struct Agreement {
+struct Agreement {
     schema: u8,
     key: u32,
     privileged: u32,
