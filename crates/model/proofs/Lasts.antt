@@ -6,25 +6,23 @@
 -- For every width w of a value, and with no premise but the calls' own acceptance. Assumes nothing.
 use Prim.Native.Nat.{ℕ, zero, suc, _≤_}
 use native.Mathlib.Omega.{arith}
-use mathlib.Core.Path.{_≡_, refl, ap, sym, subst, _∙_}
-use mathlib.Core.Bool.{true, false, not, true≢false}
+use mathlib.Core.Path.{_≡_, refl, ap, sym, _∙_}
 use mathlib.Core.List.{List, [], _∷_, _++_, map, flatMap, flatten, append-nil}
-use mathlib.Core.Option.{Option, none, some}
 use lib.ListN.{length, take, length-map}
 use borrow.Author.Tests.{le-ltb}
 use Rattle.model.specs.declared.Row.{Row}
-use Rattle.model.specs.Lists.{All, isEmpty}
+use Rattle.model.specs.Lists.{All}
 use Rattle.model.specs.Time.{lastMinute}
 use Rattle.model.specs.Terms.{Terms}
 use Rattle.model.specs.Log.{Record}
 use Rattle.model.specs.Rows.{strike}
-use Rattle.model.specs.Records.{stampIn, readRecord, recordFrom, readLog, recordsIn, rowBytes, timeIn}
-use Rattle.model.specs.Calls.{termsOf, logOf, notOneRecord, rowsOf, append, report}
+use Rattle.model.specs.Records.{stampIn, recordFrom, readLog, recordsIn, rowBytes, timeIn}
+use Rattle.model.specs.Calls.{termsOf, logOf, rowsOf, append, report}
 use Rattle.model.specs.Lasting.{Accepted, HeldLog, usedAfter, afterAppend, afterAppends, NoneBefore, reportOn, rowsGiven, rowsLeft, ReportLasts, bytesBefore, AlikeReportSame, Lasting}
 use Rattle.model.proofs.ListLaws.{all-imp, all-of, flatten-map}
 use Rattle.model.proofs.StrikeLaws.{strike-append, strike-all, strike-map}
-use Rattle.model.proofs.RecordLaws.{OneRecord, read-one}
-use Rattle.model.proofs.LogLaws.{empty, log-unbroken, log-records, log-append, records-equal}
+use Rattle.model.proofs.RecordLaws.{OneRecord}
+use Rattle.model.proofs.LogLaws.{log-unbroken, log-records, log-append, records-equal, event-one}
 use Rattle.model.proofs.RowBytesLaws.{row-timed}
 use Rattle.model.proofs.RefusalLaws.{AppendAccepted, append-accepted}
 use Rattle.model.proofs.WriteLaws.{append-refused, ReportKeeps, report-keeps, append-keeps}
@@ -37,18 +35,6 @@ use Rattle.model.proofs.RowsSame.{rows-same, rows-strike}
 -- the bytes of each record of a held log
 abbrev held-records : ℕ → List ℕ → HeldLog → List (List ℕ)
 held-records w terms held = readLog w (termsOf terms) (take (held .used) (held .buffer)) .0
-
--- an event that is not refused with 11 is exactly one record
-event-one : (w : ℕ) (terms : Terms) (event : List ℕ) → notOneRecord w terms event ≡ false → OneRecord w terms event
-unfolding notOneRecord
-event-one w terms event e = go (readRecord w terms event) refl e
-  where
-    go : (o : Option (List ℕ × List ℕ)) → readRecord w terms event ≡ o → elim o [ none ↦ true | some found ↦ not (isEmpty (found .1)) ] ≡ false → OneRecord w terms event
-    go none p e = absurd (true≢false e)
-    go (some x) p e =
-        let found : (event ≡ x .0 ++ x .1) × OneRecord w terms (x .0) = read-one w terms event (x .0) (x .1) p in
-        let whole : event ≡ x .0 = found .0 ∙ ap (λ (t : List ℕ). x .0 ++ t) (empty (x .1) e) ∙ append-nil (x .0) in
-        subst (OneRecord w terms) (sym whole) (found .1)
 
 module _ (w : ℕ) (terms : List ℕ) (held : HeldLog) (event : List ℕ) where
   -- a refused append leaves the log as it was held

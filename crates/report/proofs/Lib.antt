@@ -1,7 +1,6 @@
 -- Laws that the proofs of calls 4 and 5 cite.
 pub mod Entries
 pub mod RowSteps
-pub mod Accepted
 pub mod Sought
 pub mod Pages
 pub mod Parties

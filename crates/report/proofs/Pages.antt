@@ -7,11 +7,11 @@
 --     Left, left-…          rows of which some are left to be written
 -- Assumes nothing.
 use Prim.Native.Nat.{ℕ, _+_, _*_, _/_, _%_, _≤_}
-use native.Mathlib.Nat.{add-zero, div-div-eq-div-mul}
+use native.Mathlib.Nat.{div-div-eq-div-mul}
 use native.Mathlib.Omega.{arith}
 use mathlib.Core.Path.{_≡_, refl, ap, sym, _∙_, fun-ext}
 use mathlib.Core.List.{List, [], _∷_, _++_, flatMap, append-nil}
-use lib.ListN.{length, set, length-append, take-append-drop}
+use lib.ListN.{length, set, length-append}
 use Rattle.model.specs.declared.Time.{Time}
 use Rattle.model.specs.declared.Time.the-variants.{At, Never}
 use Rattle.model.specs.declared.Stage.{Stage}
@@ -23,7 +23,7 @@ use Rattle.model.specs.Rows.{rowOf, rowAt}
 use Rattle.model.specs.Calls.{termsOf}
 use Rattle.model.proofs.RowBytesLaws.{rows-length}
 use Rattle.model.proofs.ListLaws.{flatMap-append}
-use Rattle.model.proofs.WriteLaws.{written-length, written-more, written-one, written-put}
+use Rattle.model.proofs.WriteLaws.{written-length, written-none, written-more, written-one, written-put}
 use Rattle.evaluate.specs.Seen.{recordIn}
 use Rattle.report.specs.declared.rows.Agreement.{Agreement}
 use Rattle.report.specs.Shown.{rowBy, withRows}
@@ -70,8 +70,8 @@ row-by page at x h {stage} i a b d e =
 
 -- no row
 pub no-rows : (page : List ℕ) (at : ℕ) → page ≡ withRows page at []
-unfolding withRows written flatMap
-no-rows page at = rw (add-zero at, take-append-drop)
+unfolding withRows flatMap
+no-rows page at = written-none page at
 
 -- one row
 one-row : (page : List ℕ) (at : ℕ) (x : Row) → written page at (rowBytes valueWidth x) ≡ withRows page at (x ∷ [])

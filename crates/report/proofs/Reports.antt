@@ -24,10 +24,9 @@ use Rattle.model.specs.Calls.{Check, refusal, logLimit, usedTooLong, logChecks,
 use Rattle.model.proofs.BoolLaws.{or-false}
 use Rattle.model.proofs.AnswerLaws.{refusal-positive}
 use Rattle.model.proofs.WriteLaws.{refused-outcome}
-use Rattle.log.proofs.Checks.{used-inside}
+use Rattle.log.proofs.Checks.{used-inside, log-refused}
 use Rattle.report.specs.Shown.{schemasFrom, withRows}
 use Rattle.report.proofs.RowSteps.{all-rows}
-use Rattle.report.proofs.Accepted.{log-refused}
 
 -- a used length that is kept is within the limit, and so are the used bytes
 pub used-few : (log : List ℕ) (used : ℕ) → usedTooLong log used ≡ false → length (take used log) ≤ 32768

@@ -30,11 +30,11 @@ use Rattle.model.proofs.AnswerLaws.{refusal-positive}
 use Rattle.model.proofs.StandingLaws.{refused-entries}
 use Rattle.log.specs.Holds.{recordAt}
 use Rattle.log.proofs.Steps.{Step}
+use Rattle.log.proofs.Checks.{log-refused}
 use Rattle.evaluate.specs.Seen.{logIn, recordIn}
 use Rattle.report.specs.declared.Place.the-variants as place
 use Rattle.report.specs.Shown.{entriesIn, FoundAt}
 use Rattle.report.proofs.RowSteps.{is-subject}
-use Rattle.report.proofs.Accepted.{log-refused}
 
 module _ (terms log : List ℕ) (schema key m at : ℕ) where
   -- a record of another kind is not the one

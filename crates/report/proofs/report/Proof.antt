@@ -11,8 +11,7 @@ use Rattle.model.specs.Calls.{Check, refusal, logChecks}
 use Rattle.model.proofs.RefusalLaws.{LogAccepted}
 use Rattle.grammar.specs.Places.{Placed}
 use Rattle.terms.proofs.Faults.{layout-few, layout-placed}
-use Rattle.log.proofs.Checks.{used-inside}
-use Rattle.report.proofs.Accepted.{log-kept}
+use Rattle.log.proofs.Checks.{used-inside, log-kept}
 use Rattle.report.proofs.Reports.{used-few, report-refused, report-short, report-written}
 use Rattle.report.proofs.report.Statement.{statement}
 use Rattle.report.proofs.report.Tie as tie

@@ -11,10 +11,9 @@ use Rattle.model.specs.Calls.{Check, refusal, logChecks, termsOf}
 use Rattle.model.proofs.RefusalLaws.{LogAccepted}
 use Rattle.grammar.specs.Places.{Placed}
 use Rattle.terms.proofs.Faults.{layout-few, layout-placed, schemas-count}
-use Rattle.log.proofs.Checks.{used-inside}
+use Rattle.log.proofs.Checks.{used-inside, log-kept}
 use Rattle.report.specs.declared.Place.the-variants.{At}
 use Rattle.report.specs.Shown.{FoundAt}
-use Rattle.report.proofs.Accepted.{log-kept}
 use Rattle.report.proofs.Sought.{standing-refused, standing-past, standing-nobody, standing-shown}
 use Rattle.report.proofs.standing.Statement.{statement}
 use Rattle.report.proofs.standing.Tie as tie

@@ -2,8 +2,6 @@
 use borrow.Author.Tests.{ne-eqb}
 use Rattle.model.proofs.Stage.of_form.Statement.{statement}
 use Rattle.model.proofs.Stage.of_form.Tie as tie
-use Rattle.model.proofs.Stage.of_form.Reads as reads
-use Rattle.model.proofs.Stage.of_form.Lts as lts
 
 returns : tie.Need-returns
 returns c = rw (c .match .keys1)

@@ -4,8 +4,6 @@ use Rattle.model.specs.Time.{earlierOf}
 use Rattle.model.proofs.TimeLaws.{earlier-left, earlier-right, earlier-alone}
 use Rattle.model.proofs.Time.earlier_of.Statement.{statement}
 use Rattle.model.proofs.Time.earlier_of.Tie as tie
-use Rattle.model.proofs.Time.earlier_of.Reads as reads
-use Rattle.model.proofs.Time.earlier_of.Lts as lts
 
 enum-told : tie.Need-enum-told
 enum-told c = search needs

@@ -4,8 +4,6 @@ use Rattle.model.specs.Time.{laterOf}
 use Rattle.model.proofs.TimeLaws.{later-right, later-left}
 use Rattle.model.proofs.Time.later_of.Statement.{statement}
 use Rattle.model.proofs.Time.later_of.Tie as tie
-use Rattle.model.proofs.Time.later_of.Reads as reads
-use Rattle.model.proofs.Time.later_of.Lts as lts
 
 enum-told : tie.Need-enum-told
 enum-told c = search needs

@@ -1,0 +1,95 @@
+-- Counts and lengths keep below 4,294,967,296: an append ends within the limit of a log, and a report has at most five rows for each record under
+-- each schema. Assumes nothing.
+use Prim.Native.Nat.{ℕ, zero, suc, _*_, _≤_, _<_}
+use native.Mathlib.Nat.{mul-suc}
+use native.Mathlib.Omega.{arith}
+use mathlib.Core.Path.{_≡_, refl}
+use mathlib.Core.Bool.{Bool, true, false}
+use mathlib.Core.List.{List, [], _∷_, flatMap}
+use lib.ListN.{length, length-append, length-map, take}
+use Rattle.model.specs.declared.Time.{Time}
+use Rattle.model.specs.declared.Time.the-variants.{At, Never}
+use Rattle.model.specs.declared.Row.{Row}
+use Rattle.model.specs.Lists.{numbersFrom}
+use Rattle.model.specs.Stages.{stages}
+use Rattle.model.specs.Terms.{Terms}
+use Rattle.model.specs.Log.{Record, Log}
+use Rattle.model.specs.Rows.{rowAt, isSubject}
+use Rattle.model.specs.Grammar.{schemasLimit}
+use Rattle.model.specs.Records.{valueWidth, readRecord, readLog, recordsIn}
+use Rattle.model.specs.Calls.{logLimit, termsOf, logOf, append, rowsOf, report}
+use Rattle.model.proofs.ReaderLaws.{many-count}
+use Rattle.model.proofs.GrammarLaws.{file-read}
+use Rattle.model.proofs.RefusalLaws.{report-accepted}
+use Rattle.model.proofs.WriteLaws.{report-refused, append-refused, report-keeps, append-keeps}
+use Rattle.model.proofs.RowLaws.{rowsAt, subjectRowsAt, report-order}
+use Rattle.terms.proofs.Faults.{schemas-count}
+use Rattle.report.proofs.Reports.{used-few}
+
+-- where each element gives at most k others, all of them give at most k times as many
+few-each : {A B : Type 0} (k : ℕ) (f : A → List B) → ((x : A) → length (f x) ≤ k) → (l : List A) → length (flatMap f l) ≤ k * length l
+unfolding flatMap
+few-each k f h [] = omega arith
+few-each k f h (x ∷ l) = rw (length-append, mul-suc) (omega (arith, h x, few-each k f h l))
+
+-- so many numbers
+numbers-count : (n count : ℕ) → length (numbersFrom n count) ≤ count
+unfolding numbersFrom
+numbers-count n zero = omega arith
+numbers-count n (suc count) = omega (arith, numbers-count (suc n) count)
+
+-- a time has at most one row
+few-at : (f : ℕ → Row) (t : Time) → length (rowAt f t) ≤ 1
+unfolding rowAt
+few-at f (At n) = omega arith
+few-at f Never = omega arith
+
+-- a record has at most five rows under a schema
+few-subject : (terms : Terms) (log : Log) (m j : ℕ) (r : Record) → length (subjectRowsAt terms log m j r) ≤ 5
+unfolding subjectRowsAt rowsAt stages
+few-subject terms log m j r = go (isSubject terms j r)
+  where
+    go : (b : Bool) → length {A = Row} (elim b [ true ↦ flatMap (rowsAt terms log m j r) stages | false ↦ [] ]) ≤ 5
+    go true = few-each 1 (rowsAt terms log m j r) (λ s. few-at _ _) stages
+    go false = omega arith
+
+-- a log of 32,768 records has at most five times as many
+few-schema : (terms : Terms) (log : Log) (m j : ℕ) → length log ≤ 32768 → length (flatMap (subjectRowsAt terms log m j) log) ≤ 163840
+few-schema terms log m j h = omega (arith, few-each 5 (subjectRowsAt terms log m j) (few-subject terms log m j) log)
+
+-- there are no more records than bytes
+few-records : (terms : Terms) (s : List ℕ) → length (recordsIn valueWidth terms s) ≤ length s
+unfolding recordsIn readLog
+few-records terms s = rw length-map (many-count (readRecord valueWidth terms) (length s) s)
+
+-- so few bytes have few rows, since there are at most 16 schemas
+few-rows : (terms log : List ℕ) (used m : ℕ) → length (take used log) ≤ 32768 → length (rowsOf valueWidth terms log used m) ≤ 2621440
+unfolding schemasLimit rowsOf logOf
+few-rows terms log used m h =
+    let schemas = length (termsOf terms .schemas) in
+    let records = recordsIn valueWidth (termsOf terms) (take used log) in
+    let few : length records ≤ 32768 = omega (arith, few-records (termsOf terms) (take used log)) in
+    let rows : ℕ → List Row = λ j. flatMap (subjectRowsAt (termsOf terms) records m j) records in
+    rw report-order
+    (omega (arith, few-each 163840 rows (λ j. few-schema (termsOf terms) records m j few) (numbersFrom 0 schemas), numbers-count 0 schemas, schemas-count terms, file-read terms .2))
+
+-- what is below where a call is accepted is so anyhow: with a refusal it is 0
+below : {value : ℕ} (number : ℕ) → (number ≡ 0 → value < 4294967296) → (¬ (number ≡ 0) → value ≡ 0) → value < 4294967296
+below zero accepted refused = accepted refl
+below (suc n) accepted refused = omega (arith, refused (λ e. omega (arith, e)))
+
+-- what call 3 measures, whatever it is given
+pub append-below : (terms log : List ℕ) (used : ℕ) (event : List ℕ) → append valueWidth terms log used event .answer .value < 4294967296
+unfolding logLimit
+append-below terms log used event =
+    below (append valueWidth terms log used event .answer .number) (λ a. omega (arith, append-keeps valueWidth terms log used event a .in-limit))
+    (λ r. append-refused valueWidth terms log used event r .nothing)
+
+-- what call 4 counts, whatever it is given
+pub report-below : (terms log : List ℕ) (used m : ℕ) (page : List ℕ) → report valueWidth terms log used m page .answer .value < 4294967296
+report-below terms log used m page =
+    below (report valueWidth terms log used m page .answer .number)
+    (λ a.
+    let fits = report-accepted valueWidth terms log used m page .0 a .0 .used-fits in
+    omega (arith, report-keeps valueWidth terms log used m page a .counted, few-rows terms log used m (used-few log used fits)))
+    (λ r. report-refused valueWidth terms log used m page r .nothing)

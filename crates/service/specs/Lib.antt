@@ -1,0 +1,2 @@
+-- What the library service gets, over the model's calls.
+pub mod Exports
