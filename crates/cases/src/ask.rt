@@ -14,29 +14,35 @@ const LONG: usize = 18446744073709551615;
 // How many bytes the page has of which a report is lent the first ones.
 pub const PAGE_LENGTH: usize = 65520;
 
-// The call: 1; 2; 4 with its moment and how many bytes of the page it is lent; 5 with its schema, key and moment.
+// Which rows are struck from a report once it is given: those timed at a moment or later, or none.
+pub enum Struck {
+    From(u32),
+    Nothing,
+}
+
+// The call: 1; 2; 3; 4 with its moment, how many bytes of the page it is lent, and what is struck; 5 with its schema, key and moment.
 pub enum Ask {
     Terms,
     Log,
-    Report(u32, usize),
+    Append,
+    Report(u32, usize, Struck),
     Standing(usize, u32, u32),
 }
 
-// How far the text is read, and the call that is asked for there.
-struct Call {
+// How far the text is read, and which rows are struck.
+struct Striking {
     at: usize,
-    ask: Ask,
+    struck: Struck,
 }
 
-// The same, with the used length.
-pub struct Asked {
+// How far the text is read, and the call that is asked for there.
+pub struct Call {
     pub at: usize,
-    pub used: usize,
     pub ask: Ask,
 }
 
 // The used length, if it is given.
-fn read_used(text: &[u8], from: usize, otherwise: usize) -> Number
+pub fn read_used(text: &[u8], from: usize, otherwise: usize) -> Number
     requires { ⌜ from ≤ length (now text) ⌝ }
     ensures { λ r. ⌜ (from ≤ r .at) × (r .at ≤ length (now (text .entry))) ⌝ }
 {
@@ -53,6 +59,29 @@ fn read_used(text: &[u8], from: usize, otherwise: usize) -> Number
         return nothing;
     }
     used
+}
+
+// Which rows are struck, if that is given.
+fn read_strike(text: &[u8], from: usize) -> Striking
+    requires { ⌜ from ≤ length (now text) ⌝ }
+    ensures { λ r. ⌜ (from ≤ r .at) × (r .at ≤ length (now (text .entry))) ⌝ }
+{
+    let nothing = Striking {
+        at: from,
+        struck: Struck::Nothing,
+    };
+    let at = past(text, from, b"strike");
+    if at <= from {
+        return nothing;
+    }
+    let since = number_up_to(text, at, WORD);
+    if since.at <= at {
+        return nothing;
+    }
+    Striking {
+        at: since.at,
+        struck: Struck::From(since.value as u32),
+    }
 }
 
 // Call 4, if it is asked for.
@@ -76,9 +105,11 @@ fn read_report(text: &[u8], from: usize, otherwise: Ask) -> Call
     if page.at <= moment.at {
         return nothing;
     }
+    let striking = read_strike(text, page.at);
+    let struck = striking.struck;
     Call {
-        at: page.at,
-        ask: Ask::Report(moment.value as u32, page.value),
+        at: striking.at,
+        ask: Ask::Report(moment.value as u32, page.value, struck),
     }
 }
 
@@ -123,30 +154,22 @@ fn check_of(of_log: bool) -> Ask
     Ask::Terms
 }
 
-// The call that is asked for, with what it needs besides terms and log.
-fn read_call(text: &[u8], from: usize, of_log: bool) -> Call
+// The call that is asked for behind terms, log and event: call 3 if there is an event; without any word for a call, call 2 if the text goes on
+// behind the terms, else call 1.
+pub fn read_call(text: &[u8], behind_terms: usize, behind_log: usize, from: usize) -> Call
     requires { ⌜ from ≤ length (now text) ⌝ }
     ensures { λ r. ⌜ (from ≤ r .at) × (r .at ≤ length (now (text .entry))) × Lends (r .ask) ⌝ }
 {
-    let check = check_of(of_log);
+    if behind_log < from {
+        return Call {
+            at: from,
+            ask: Ask::Append,
+        };
+    }
+    let check = check_of(behind_terms < behind_log);
     let report = read_report(text, from, check);
     if from < report.at {
         return report;
     }
     read_standing(text, from, check)
-}
-
-// The used length, for a log of so many bytes, and the call. Without another call the log is checked if anything stands behind the terms.
-pub fn read_asked(text: &[u8], behind_terms: usize, from: usize, log: usize) -> Asked
-    requires { ⌜ from ≤ length (now text) ⌝ }
-    ensures { λ r. ⌜ (from ≤ r .at) × (r .at ≤ length (now (text .entry))) × Lends (r .ask) ⌝ }
-{
-    let used = read_used(text, from, log);
-    let call = read_call(text, used.at, behind_terms < used.at);
-    let ask = call.ask;
-    Asked {
-        at: call.at,
-        used: used.value,
-        ask,
-    }
 }

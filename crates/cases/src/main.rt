@@ -1,25 +1,21 @@
-// Runs calls 1, 2, 4 and 5 on the cases of its input and prints what each answers.
+// Runs the five calls on the cases of its input and prints what each answers.
 // The first lines of the file stdin say how a case is written.
 mod ask;
+mod calls;
 mod show;
+mod strike;
 mod text;
 
 use ask::Ask;
-use ask::PAGE_LENGTH;
-use ask::read_asked;
+use ask::read_call;
+use ask::read_used;
+use calls::run_call;
 use libc::STDIN_FILENO;
-use log::check_log;
-use report::report;
-use report::standing;
-use show::UNWRITTEN;
 use show::say;
 use show::show_bad;
-use show::show_checked;
-use show::show_reported;
-use show::show_standing;
-use terms::check_terms;
 use text::NO_BYTE;
 use text::Number;
+use text::byte_or_zero;
 use text::ends_word;
 use text::pair;
 use text::past;
@@ -28,7 +24,6 @@ use text::skip;
 use text::word_end;
 ghost use Prim.Native.Nat.{_+_, _≤_};
 ghost use lib.ListN.{length};
-ghost use Rattle.cases.specs.Lends.{Lends};
 ghost use Rattle.cases.specs.Within.{Within};
 
 // How far the text is read, and how many bytes of a buffer are filled.
@@ -37,14 +32,36 @@ struct Filled {
     length: usize,
 }
 
-// A case: where its name starts and ends, how far the text is read, how many bytes its terms and its log buffer have, the used length, and
-// what is asked for.
+// Where a name starts and ends, and how far the text is read.
+struct Name {
+    start: usize,
+    end: usize,
+    at: usize,
+}
+
+// How far the text is read, how many bytes the log buffer has, and the used length.
+struct Held {
+    at: usize,
+    log: usize,
+    used: usize,
+}
+
+// What a case leaves to the next one: how many bytes the terms and the log buffer have, and the used length that goes on.
+struct Left {
+    terms: usize,
+    log: usize,
+    used: usize,
+}
+
+// A case: where its name starts and ends, how far the text is read, how many bytes its terms, its log buffer and its event have, the used
+// length, and what is asked for.
 struct Case {
     name: usize,
     behind: usize,
     at: usize,
     terms: usize,
     log: usize,
+    event: usize,
     used: usize,
     ask: Ask,
 }
@@ -103,21 +120,13 @@ fn read_copies(text: &[u8], at: usize) -> Number
     read_number(text, at + 1)
 }
 
-// A byte of a step; past its end it is 0.
-fn step_at(step: &[u8], i: usize) -> u8 {
-    if i < step.len() {
-        return step[i];
-    }
-    0
-}
-
 // One more copy of the bytes before a place, the step added.
 fn copy(buffer: &mut [u8], at: usize, size: usize, step: &[u8])
     requires { ⌜ (size ≤ at) × (at + size ≤ length (now buffer)) ⌝ }
 {
     let mut i: usize = 0;
     while i < size {
-        buffer[at + i] = std::num::wrapping_add_u8(buffer[at + i - size], step_at(step, i));
+        buffer[at + i] = std::num::wrapping_add_u8(buffer[at + i - size], byte_or_zero(step, i));
         i += 1;
     }
 }
@@ -206,24 +215,69 @@ fn read_section(text: &[u8], from: usize, keyword: &[u8], buffer: &mut [u8], had
     read_bytes(text, at, buffer)
 }
 
-// The case at a place, as far as it goes; the terms are those of the case before where it gives none.
-fn read_case(text: &[u8], from: usize, terms: &mut [u8], had: usize, log: &mut [u8]) -> Case
-    requires { ⌜ (from ≤ length (now text)) × (had ≤ length (now terms)) ⌝ }
-    ensures { λ r. ⌜ Within r (now (text .entry)) (now (terms .exit)) (now (log .exit)) ⌝ }
+// The name of a case.
+fn read_name(text: &[u8], from: usize) -> Name
+    requires { ⌜ from ≤ length (now text) ⌝ }
+    ensures { λ r. ⌜ (r .start ≤ r .end) × (r .end ≤ r .at) × (r .at ≤ length (now (text .entry))) ⌝ }
 {
-    let name = past(text, from, b"case");
-    let behind = word_end(text, name);
-    let of_terms = read_section(text, skip(text, behind), b"terms", terms, had);
-    let of_log = read_section(text, of_terms.at, b"log", log, 0);
-    let asked = read_asked(text, of_terms.at, of_log.at, of_log.length);
-    let ask = asked.ask;
-    Case {
-        name,
-        behind,
-        at: asked.at,
-        terms: of_terms.length,
+    let start = past(text, from, b"case");
+    let end = word_end(text, start);
+    Name {
+        start,
+        end,
+        at: skip(text, end),
+    }
+}
+
+// The log buffer and the used length: given, or those that the case before left.
+fn read_held(text: &[u8], from: usize, left: Left, log: &mut [u8]) -> Held
+    requires { ⌜ (from ≤ length (now text)) × (left .log ≤ length (now log)) ⌝ }
+    ensures { λ r. ⌜ (from ≤ r .at) × (r .at ≤ length (now (text .entry))) × (r .log ≤ length (now (log .exit))) ⌝ }
+{
+    let at = past(text, from, b"held");
+    if from < at {
+        let used = read_used(text, at, left.used);
+        return Held {
+            at: used.at,
+            log: left.log,
+            used: used.value,
+        };
+    }
+    let of_log = read_section(text, from, b"log", log, 0);
+    let used = read_used(text, of_log.at, of_log.length);
+    Held {
+        at: used.at,
         log: of_log.length,
-        used: asked.used,
+        used: used.value,
+    }
+}
+
+// The case at a place, as far as it goes; the terms are those of the case before where it gives none.
+fn read_case(
+    text: &[u8],
+    from: usize,
+    left: Left,
+    terms: &mut [u8],
+    log: &mut [u8],
+    event: &mut [u8],
+) -> Case
+    requires { ⌜ (from ≤ length (now text)) × (left .terms ≤ length (now terms)) × (left .log ≤ length (now log)) ⌝ }
+    ensures { λ r. ⌜ Within r (now (text .entry)) (now (terms .exit)) (now (log .exit)) (now (event .exit)) ⌝ }
+{
+    let name = read_name(text, from);
+    let of_terms = read_section(text, name.at, b"terms", terms, left.terms);
+    let held = read_held(text, of_terms.at, left, log);
+    let of_event = read_section(text, held.at, b"append", event, 0);
+    let call = read_call(text, of_terms.at, held.at, of_event.at);
+    let ask = call.ask;
+    Case {
+        name: name.start,
+        behind: name.end,
+        at: call.at,
+        terms: of_terms.length,
+        log: held.log,
+        event: of_event.length,
+        used: held.used,
         ask,
     }
 }
@@ -241,59 +295,36 @@ fn whole(text: &[u8], case: Case) -> bool
     case.at < past(text, case.at, b"case")
 }
 
-// Asks for call 4 on a page and prints the answer.
-fn report_on(terms: &[u8], log: &[u8], used: usize, moment: u32, page: &mut [u8]) {
-    let reported = report(terms, log, used, moment, page);
-    show_reported(reported, page);
-}
-
-// Asks for call 4 on so many bytes of a page that nobody has written.
-fn run_report(terms: &[u8], log: &[u8], used: usize, moment: u32, size: usize)
-    requires { ⌜ size ≤ 65520 ⌝ }
-{
-    let mut page = [UNWRITTEN; PAGE_LENGTH];
-    report_on(terms, log, used, moment, &mut page[..size]);
-}
-
-// Asks for a call and prints the answer.
-fn run_call(terms: &[u8], log: &[u8], used: usize, ask: Ask)
-    requires { ⌜ Lends ask ⌝ }
-{
-    match ask {
-        Ask::Terms => {
-            show_checked(check_terms(terms));
-        }
-        Ask::Log => {
-            show_checked(check_log(terms, log, used));
-        }
-        Ask::Report(moment, size) => {
-            run_report(terms, log, used, moment, size);
-        }
-        Ask::Standing(schema, key, moment) => {
-            show_standing(standing(terms, log, used, schema, key, moment));
-        }
-    }
-}
-
-// Runs a case and prints its name and the answer.
-fn run_case(text: &[u8], case: Case, terms: &[u8], log: &[u8])
-    requires { ⌜ Within case (now text) (now terms) (now log) ⌝ }
+// Runs a case and prints its name and the answer. The used length that goes on.
+fn run_case(text: &[u8], case: Case, terms: &[u8], log: &mut [u8], event: &[u8]) -> usize
+    requires { ⌜ Within case (now text) (now terms) (now log) (now event) ⌝ }
 {
     let name = case.name;
     let behind = case.behind;
     let terms_length = case.terms;
     let log_length = case.log;
+    let event_length = case.event;
     let ask = case.ask;
     say(&text[name..behind]);
-    run_call(&terms[..terms_length], &log[..log_length], case.used, ask);
+    run_call(
+        &terms[..terms_length],
+        &mut log[..log_length],
+        case.used,
+        &event[..event_length],
+        ask,
+    )
 }
 
 // Runs the cases of a text, up to the first that is not written as it should be.
-fn run(text: &[u8], terms: &mut [u8], log: &mut [u8]) {
+fn run(text: &[u8], terms: &mut [u8], log: &mut [u8], event: &mut [u8]) {
     let mut at = skip(text, 0);
-    let mut had: usize = 0;
+    let mut left = Left {
+        terms: 0,
+        log: 0,
+        used: 0,
+    };
     while at < text.len() {
-        let case = read_case(text, at, terms, had, log);
+        let case = read_case(text, at, left, terms, log, event);
         if case.name <= at {
             show_bad();
             return;
@@ -302,9 +333,13 @@ fn run(text: &[u8], terms: &mut [u8], log: &mut [u8]) {
             show_bad();
             return;
         }
-        run_case(text, case, terms, log);
+        let used = run_case(text, case, terms, log, event);
         at = case.at;
-        had = case.terms;
+        left = Left {
+            terms: case.terms,
+            log: case.log,
+            used,
+        };
     }
 }
 
@@ -313,10 +348,11 @@ fn main() {
     let mut text = [0u8; 131072];
     let mut terms = [0u8; 20000];
     let mut log = [0u8; 40000];
+    let mut event = [0u8; 256];
     let n = io::read_full(STDIN_FILENO, &mut text);
     if n == text.len() {
         show_bad();
         return;
     }
-    run(&text[..n], &mut terms, &mut log);
+    run(&text[..n], &mut terms, &mut log, &mut event);
 }

@@ -1,5 +1,9 @@
 // Prints what the calls answer.
+use crate::text::byte_or_zero;
+use crate::text::number_at;
+use crate::text::wide;
 use libc::STDOUT_FILENO;
+use model::Appended;
 use model::Checked;
 use model::Entries;
 use model::Refusal;
@@ -75,22 +79,6 @@ fn show_stage(form: u8) {
     }
 }
 
-// A byte as a number.
-fn wide(b: u8) -> u64
-    ensures { λ r. ⌜ r < 256 ⌝ }
-{
-    b as u64
-}
-
-// The number in four bytes of a page, the low one first.
-fn number_at(page: &[u8], at: usize) -> u64
-    requires { ⌜ at + 4 ≤ length (now page) ⌝ }
-{
-    let low = wide(page[at]) + 256 * wide(page[at + 1]);
-    let high = wide(page[at + 2]) + 256 * wide(page[at + 3]);
-    low + 65536 * high
-}
-
 // Prints the row at a place of a page.
 fn show_row(page: &[u8], at: usize)
     requires { ⌜ at + 18 ≤ length (now page) ⌝ }
@@ -144,18 +132,93 @@ fn show_page(page: &[u8], from: usize)
     }
 }
 
-// Prints the answer of call 4, the rows that are on the page, and whether anything else on it has been written.
-pub fn show_reported(reported: Reported, page: &[u8]) {
+// Prints the answer of call 4, the rows that are on the page, and whether anything else on it has been written. The place behind the rows.
+pub fn show_reported(reported: Reported, page: &[u8]) -> usize
+    ensures { λ r. ⌜ r ≤ length (now (page .entry)) ⌝ }
+{
     match reported {
         Reported::Count(count) => {
             say(b":");
             say_number(count as u64);
             say(b" rows\n");
-            show_page(page, show_rows(page, count));
+            let end = show_rows(page, count);
+            show_page(page, end);
+            end
         }
         Reported::Refused(refusal) => {
             show_refusal(refusal);
             show_page(page, 0);
+            0
+        }
+    }
+}
+
+// Prints the rows that are left of a report where those timed at a moment or later are struck.
+pub fn show_struck(since: u64, rows: &[u8]) {
+    say(b"  struck from");
+    say_number(since);
+    say(b" on:");
+    say_number((rows.len() / ROW_LENGTH) as u64);
+    say(b" rows\n");
+    show_rows(rows, rows.len() / ROW_LENGTH);
+}
+
+// Prints the bytes of a log buffer from a place up to another, in hexadecimal.
+fn show_bytes(log: &[u8], from: usize, to: usize) {
+    say(b"  put ");
+    let mut at = from;
+    while at < to {
+        io::print_hex(STDOUT_FILENO, wide(byte_or_zero(log, at)), 2);
+        at += 1;
+    }
+    say(b"\n");
+}
+
+// Whether a byte has changed, other than one from a place up to another.
+fn changed_at(before: &[u8], log: &[u8], at: usize, from: usize, to: usize) -> bool {
+    if from <= at {
+        if at < to {
+            return false;
+        }
+    }
+    byte_or_zero(before, at) != byte_or_zero(log, at)
+}
+
+// Whether some byte of the buffer has changed, other than those from a place up to another.
+fn changed_outside(before: &[u8], log: &[u8], from: usize, to: usize) -> bool {
+    let mut at: usize = 0;
+    while at < log.len() {
+        if changed_at(before, log, at, from, to) {
+            return true;
+        }
+        at += 1;
+    }
+    false
+}
+
+// Says so if a byte of the buffer has changed, other than those from a place up to another.
+fn show_log(before: &[u8], log: &[u8], from: usize, to: usize) {
+    if changed_outside(before, log, from, to) {
+        say(b"  log changed\n");
+    }
+}
+
+// Prints the answer of call 3, the bytes that are put behind the used ones, and whether any other byte of the buffer has changed. The used
+// length that goes on.
+pub fn show_appended(appended: Appended, used: usize, before: &[u8], log: &[u8]) -> usize {
+    match appended {
+        Appended::Length(length) => {
+            say(b": length");
+            say_number(length as u64);
+            say(b"\n");
+            show_bytes(log, used, length);
+            show_log(before, log, used, length);
+            length
+        }
+        Appended::Refused(refusal) => {
+            show_refusal(refusal);
+            show_log(before, log, 0, 0);
+            used
         }
     }
 }

@@ -7,15 +7,14 @@ pub read-case-spec : {M : Type 1} → statement M
 read-case-spec =
     tie.close
     (tie.spec
-    (λ c. search needs)
-    (λ c κs. search needs)
-    (λ c κs. search needs)
     (λ c κs. search needs)
     (λ c. search needs)
+    (λ c κs. search needs)
     (λ c κs. search needs)
     (λ c. search needs)
     (λ c κs. search needs)
     (λ c κs. search needs)
     (λ c. search needs)
     (λ c. search needs)
-    (λ c. record { named = search needs; name-ends = search needs; ends = search needs; terms-fit = search needs; log-fits = search needs; lends = search needs }))
+    (λ c. search needs)
+    (λ c. record { named = search needs; name-ends = search needs; ends = search needs; terms-fit = search needs; log-fits = search needs; event-fits = search needs; lends = search needs }))

@@ -1,7 +1,7 @@
 -- `run_case` meets its contract. The parts of the slices are those that `Within` allows. Assumes nothing.
-use borrow.Author.Needs.{needs}
 use native.Mathlib.Omega.{arith}
 use lib.ListN.{length-take}
+use borrow.Author.Needs.{needs}
 use Rattle.cases.proofs.run_case.Statement.{statement}
 use Rattle.cases.proofs.run_case.Tie as tie
 
@@ -14,6 +14,9 @@ run-case-spec =
     (λ c. search needs)
     (λ c κs. search needs)
     (λ c. simp length-take (omega arith))
+    (λ c. search needs)
+    (λ c. simp length-take (omega arith))
     (λ c. simp length-take (omega arith))
     (λ c κs. search needs)
+    (λ c. search needs)
     (λ c. search needs))

@@ -2,8 +2,8 @@
 use borrow.Author.Needs.{needs}
 use native.Mathlib.Omega.{arith}
 use lib.ListN.{length-take}
-use Rattle.cases.proofs.run_report.Statement.{statement}
-use Rattle.cases.proofs.run_report.Tie as tie
+use Rattle.cases.proofs.calls.run_report.Statement.{statement}
+use Rattle.cases.proofs.calls.run_report.Tie as tie
 
 pub run-report-spec : {M : Type 1} → statement M
 run-report-spec =
