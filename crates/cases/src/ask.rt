@@ -12,16 +12,16 @@ const WORD: usize = 4294967295;
 const LONG: usize = 18446744073709551615;
 
 // How many bytes the page has of which a report is lent the first ones.
-pub const PAGE_LENGTH: usize = 65520;
+pub(crate) const PAGE_LENGTH: usize = 65520;
 
 // Which rows are struck from a report once it is given: those timed at a moment or later, or none.
-pub enum Struck {
+pub(crate) enum Struck {
     From(u32),
     Nothing,
 }
 
 // The call: 1; 2; 3; 4 with its moment, how many bytes of the page it is lent, and what is struck; 5 with its schema, key and moment.
-pub enum Ask {
+pub(crate) enum Ask {
     Terms,
     Log,
     Append,
@@ -36,13 +36,13 @@ struct Striking {
 }
 
 // How far the text is read, and the call that is asked for there.
-pub struct Call {
+pub(crate) struct Call {
     pub at: usize,
     pub ask: Ask,
 }
 
 // The used length, if it is given.
-pub fn read_used(text: &[u8], from: usize, otherwise: usize) -> Number
+pub(crate) fn read_used(text: &[u8], from: usize, otherwise: usize) -> Number
     requires { ⌜ from ≤ length (now text) ⌝ }
     ensures { λ r. ⌜ (from ≤ r .at) × (r .at ≤ length (now (text .entry))) ⌝ }
 {
@@ -156,7 +156,7 @@ fn check_of(of_log: bool) -> Ask
 
 // The call that is asked for behind terms, log and event: call 3 if there is an event; without any word for a call, call 2 if the text goes on
 // behind the terms, else call 1.
-pub fn read_call(text: &[u8], behind_terms: usize, behind_log: usize, from: usize) -> Call
+pub(crate) fn read_call(text: &[u8], behind_terms: usize, behind_log: usize, from: usize) -> Call
     requires { ⌜ from ≤ length (now text) ⌝ }
     ensures { λ r. ⌜ (from ≤ r .at) × (r .at ≤ length (now (text .entry))) × Lends (r .ask) ⌝ }
 {

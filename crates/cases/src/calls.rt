@@ -55,7 +55,7 @@ fn run_report(terms: &[u8], log: &[u8], used: usize, moment: u32, size: usize, s
 }
 
 // Asks for a call and prints the answer. The used length that goes on.
-pub fn run_call(terms: &[u8], log: &mut [u8], used: usize, event: &[u8], ask: Ask) -> usize
+pub(crate) fn run_call(terms: &[u8], log: &mut [u8], used: usize, event: &[u8], ask: Ask) -> usize
     requires { ⌜ Lends ask ⌝ }
 {
     match ask {

@@ -17,10 +17,10 @@ ghost use Prim.Native.Nat.{_+_, _<_, _≤_};
 ghost use lib.ListN.{length};
 
 // What stands in each byte of a page that no call has written.
-pub const UNWRITTEN: u8 = 255;
+pub(crate) const UNWRITTEN: u8 = 255;
 
 // Prints bytes as they are.
-pub fn say(words: &[u8]) {
+pub(crate) fn say(words: &[u8]) {
     io::write_all(STDOUT_FILENO, words);
 }
 
@@ -38,12 +38,12 @@ fn show_refusal(refusal: Refusal) {
 }
 
 // Says that the text is not written as its first lines say.
-pub fn show_bad() {
+pub(crate) fn show_bad() {
     say(b"bad cases\n");
 }
 
 // Prints the answer of call 1 or 2.
-pub fn show_checked(checked: Checked) {
+pub(crate) fn show_checked(checked: Checked) {
     match checked {
         Checked::Accepted => {
             say(b": accepted\n");
@@ -133,7 +133,7 @@ fn show_page(page: &[u8], from: usize)
 }
 
 // Prints the answer of call 4, the rows that are on the page, and whether anything else on it has been written. The place behind the rows.
-pub fn show_reported(reported: Reported, page: &[u8]) -> usize
+pub(crate) fn show_reported(reported: Reported, page: &[u8]) -> usize
     ensures { λ r. ⌜ r ≤ length (now (page .entry)) ⌝ }
 {
     match reported {
@@ -154,7 +154,7 @@ pub fn show_reported(reported: Reported, page: &[u8]) -> usize
 }
 
 // Prints the rows that are left of a report where those timed at a moment or later are struck.
-pub fn show_struck(since: u64, rows: &[u8]) {
+pub(crate) fn show_struck(since: u64, rows: &[u8]) {
     say(b"  struck from");
     say_number(since);
     say(b" on:");
@@ -205,7 +205,7 @@ fn show_log(before: &[u8], log: &[u8], from: usize, to: usize) {
 
 // Prints the answer of call 3, the bytes that are put behind the used ones, and whether any other byte of the buffer has changed. The used
 // length that goes on.
-pub fn show_appended(appended: Appended, used: usize, before: &[u8], log: &[u8]) -> usize {
+pub(crate) fn show_appended(appended: Appended, used: usize, before: &[u8], log: &[u8]) -> usize {
     match appended {
         Appended::Length(length) => {
             say(b": length");
@@ -252,7 +252,7 @@ fn show_entries(entries: Entries) {
 }
 
 // Prints the answer of call 5.
-pub fn show_standing(standing: Standing) {
+pub(crate) fn show_standing(standing: Standing) {
     match standing {
         Standing::Shown(entries) => {
             show_entries(entries);

@@ -31,7 +31,7 @@ fn keep_row(rows: &mut [u8], at: usize, to: usize, since: u64) -> usize
 }
 
 // Strikes the rows timed at a moment or later and closes the gaps. How many bytes are left.
-pub fn strike(rows: &mut [u8], since: u64) -> usize
+pub(crate) fn strike(rows: &mut [u8], since: u64) -> usize
     ensures { λ r. ⌜ r ≤ length (now (rows .exit)) ⌝ }
 {
     let mut at: usize = 0;

@@ -5,19 +5,19 @@ ghost use lib.ListN.{length};
 // What stands for a character that is no digit, and for two that are no byte.
 const NO_DIGIT: u8 = 16;
 
-pub const NO_BYTE: u16 = 256;
+pub(crate) const NO_BYTE: u16 = 256;
 
 // A number up to this one has room for another digit.
 const NUMBER_LIMIT: usize = 1844674407370955160;
 
 // How far the text is read, and the number that stood there.
-pub struct Number {
+pub(crate) struct Number {
     pub at: usize,
     pub value: usize,
 }
 
 // A byte of a slice; past its end 0.
-pub fn byte_or_zero(bytes: &[u8], i: usize) -> u8 {
+pub(crate) fn byte_or_zero(bytes: &[u8], i: usize) -> u8 {
     if i < bytes.len() {
         return bytes[i];
     }
@@ -25,14 +25,14 @@ pub fn byte_or_zero(bytes: &[u8], i: usize) -> u8 {
 }
 
 // A byte as a number.
-pub fn wide(b: u8) -> u64
+pub(crate) fn wide(b: u8) -> u64
     ensures { λ r. ⌜ r < 256 ⌝ }
 {
     b as u64
 }
 
 // The number in four bytes, the low one first.
-pub fn number_at(bytes: &[u8], at: usize) -> u64
+pub(crate) fn number_at(bytes: &[u8], at: usize) -> u64
     requires { ⌜ at + 4 ≤ length (now bytes) ⌝ }
 {
     let low = wide(bytes[at]) + 256 * wide(bytes[at + 1]);
@@ -63,7 +63,7 @@ fn between(comment: bool, b: u8) -> bool {
 }
 
 // The place of the next word, past spaces, line ends and comments.
-pub fn skip(text: &[u8], from: usize) -> usize
+pub(crate) fn skip(text: &[u8], from: usize) -> usize
     requires { ⌜ from ≤ length (now text) ⌝ }
     ensures { λ r. ⌜ (from ≤ r) × (r ≤ length (now (text .entry))) ⌝ }
 {
@@ -80,7 +80,7 @@ pub fn skip(text: &[u8], from: usize) -> usize
 }
 
 // Where the word at a place ends.
-pub fn word_end(text: &[u8], from: usize) -> usize
+pub(crate) fn word_end(text: &[u8], from: usize) -> usize
     requires { ⌜ from ≤ length (now text) ⌝ }
     ensures { λ r. ⌜ (from ≤ r) × (r ≤ length (now (text .entry))) ⌝ }
 {
@@ -95,7 +95,7 @@ pub fn word_end(text: &[u8], from: usize) -> usize
 }
 
 // Whether no word goes on at a place.
-pub fn ends_word(text: &[u8], at: usize) -> bool {
+pub(crate) fn ends_word(text: &[u8], at: usize) -> bool {
     if text.len() <= at {
         return true;
     }
@@ -103,7 +103,7 @@ pub fn ends_word(text: &[u8], at: usize) -> bool {
 }
 
 // The word behind a keyword; the place itself where another word stands there.
-pub fn past(text: &[u8], at: usize, keyword: &[u8]) -> usize
+pub(crate) fn past(text: &[u8], at: usize, keyword: &[u8]) -> usize
     requires { ⌜ at ≤ length (now text) ⌝ }
     ensures { λ r. ⌜ (at ≤ r) × (r ≤ length (now (text .entry))) ⌝ }
 {
@@ -126,7 +126,7 @@ fn digit(b: u8) -> u8
 }
 
 // The byte that two digits stand for.
-pub fn pair(high: u8, low: u8) -> u16
+pub(crate) fn pair(high: u8, low: u8) -> u16
     ensures { λ r. ⌜ r ≤ 256 ⌝ }
 {
     let h = digit(high);
@@ -141,7 +141,7 @@ pub fn pair(high: u8, low: u8) -> u16
 }
 
 // A decimal number, as far as its digits go and fit.
-pub fn read_number(text: &[u8], from: usize) -> Number
+pub(crate) fn read_number(text: &[u8], from: usize) -> Number
     requires { ⌜ from ≤ length (now text) ⌝ }
     ensures { λ r. ⌜ (from ≤ r .at) × (r .at ≤ length (now (text .entry))) ⌝ }
 {
@@ -162,7 +162,7 @@ pub fn read_number(text: &[u8], from: usize) -> Number
 }
 
 // A word that is a decimal number up to a limit. The place is that of the next word, or the same one where no such word stands there.
-pub fn number_up_to(text: &[u8], from: usize, limit: usize) -> Number
+pub(crate) fn number_up_to(text: &[u8], from: usize, limit: usize) -> Number
     requires { ⌜ from ≤ length (now text) ⌝ }
     ensures { λ r. ⌜ (from ≤ r .at) × (r .at ≤ length (now (text .entry))) × (r .value ≤ limit) ⌝ }
 {

@@ -46,7 +46,7 @@ struct Agreement {
 }
 
 // The five entries of the subject at a place. Each clause is worked out once for all five.
-pub fn entries_of(
+pub(crate) fn entries_of(
     terms: &[u8],
     kinds: usize,
     starts: &[usize],
@@ -134,7 +134,13 @@ fn count_schema(
 }
 
 // How many rows a report has.
-pub fn count_rows(terms: &[u8], kinds: usize, starts: &[usize], log: &[u8], moment: u32) -> usize
+pub(crate) fn count_rows(
+    terms: &[u8],
+    kinds: usize,
+    starts: &[usize],
+    log: &[u8],
+    moment: u32,
+) -> usize
     requires { ⌜ Placed (now terms) kinds (now starts) × (length (now log) ≤ 32768) ⌝ }
     ensures { λ r. ⌜ (r ≡ length (schemasFrom (now (terms .entry)) (now (log .entry)) moment 0)) × (r ≤ 16 * 32768) ⌝ }
 {
@@ -273,7 +279,7 @@ fn write_schema(
 }
 
 // Writes all rows, from the page's first byte.
-pub fn write_rows(
+pub(crate) fn write_rows(
     terms: &[u8],
     kinds: usize,
     starts: &[usize],
