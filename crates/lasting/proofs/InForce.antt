@@ -12,19 +12,18 @@ use denote.Ref.{now}
 use denote.Triple.Clauses.{AtExit}
 use borrow.Fn.Kinds.{Dens, endedOf}
 use Rattle.model.specs.Records.{valueWidth}
-use Rattle.model.specs.Answers.{Answer, appendedAnswer, reportedAnswer}
-use Rattle.model.specs.Calls.{Outcome, outcome, append, report}
-use Rattle.model.specs.Lasting.{Accepted, HeldLog, usedAfter, afterAppend, afterAppends, NoneBefore, reportOn}
+use Rattle.model.specs.Answers.{Answer, appendedAnswer, reportedAnswer, unpacked}
+use Rattle.model.specs.Calls.{Outcome, outcome, append, report, served}
+use Rattle.model.specs.Lasting.{Accepted, HeldLog, heldAfter, afterAppend, afterAppends, NoneBefore, reportOn}
 use Rattle.model.proofs.Lasts.{report-lasts, alike-same}
 use Rattle.append.proofs.append.Kinds as appendKinds
 use Rattle.append.proofs.append.Reads as appendReads
 use Rattle.report.proofs.report.Kinds as reportKinds
 use Rattle.report.proofs.report.Reads as reportReads
-use Rattle.service.specs.Exports.{served, unpacked}
 use Rattle.service.proofs.Split.{append-splits, report-splits}
 use Rattle.service.proofs.agreements_append.Reads as servedAppendReads
 use Rattle.service.proofs.agreements_report.Reads as servedReportReads
-use Rattle.lasting.specs.Demand.{AppendCalls, ReportCalls, Turn, heldAfter, heldAtEnd, InTurn, NoneEarlier, GivenLasts, AlikeGiveSame, CallsLast}
+use Rattle.lasting.specs.Demand.{AppendCalls, ReportCalls, Turn, heldAtEnd, InTurn, NoneEarlier, GivenLasts, AlikeGiveSame, CallsLast}
 use Rattle.lasting.specs.Made.{AppendContract, AppendBy, ReportContract, ReportBy, AppendMade, ReportMade, AppendServed, ReportServed}
 
 -- appends that come to what the model says of them
@@ -45,25 +44,23 @@ events turns = map (λ (turn : Turn). turn .event) turns
 
 module _ (appends : AppendCalls) (by-model : AppendsByModel appends) (terms : List ℕ) where
   -- the log held behind an append is the model's
-  after-one : (held : HeldLog) (turn : Turn) → appends terms held (turn .event) (turn .came) → heldAfter held turn ≡ afterAppend valueWidth terms held (turn .event)
-  unfolding heldAfter afterAppend
-  after-one held turn made =
-      ap (λ (o : Outcome). record { buffer = o .left; used = usedAfter (o .answer .number) (o .answer .value) (held .used) })
-      (by-model terms held (turn .event) (turn .came) made)
+  after-one : (held : HeldLog) (turn : Turn) → appends terms held (turn .event) (turn .came) → heldAfter held (turn .came) ≡ afterAppend valueWidth terms held (turn .event)
+  unfolding afterAppend
+  after-one held turn made = ap (heldAfter held) (by-model terms held (turn .event) (turn .came) made)
 
   -- so is the log held behind a list of them
   after-all : (held : HeldLog) (turns : List Turn) → InTurn appends terms held turns → heldAtEnd held turns ≡ afterAppends valueWidth terms held (events turns)
   unfolding heldAtEnd afterAppends
   after-all held [] made = refl
   after-all held (turn ∷ turns) made =
-      after-all (heldAfter held turn) turns (made .1) ∙ ap (λ (h : HeldLog). afterAppends valueWidth terms h (events turns)) (after-one held turn (made .0))
+      after-all (heldAfter held (turn .came)) turns (made .1) ∙ ap (λ (h : HeldLog). afterAppends valueWidth terms h (events turns)) (after-one held turn (made .0))
 
   -- and what is said of the stamps of accepted events
   none-before : (m : ℕ) (held : HeldLog) (turns : List Turn) → InTurn appends terms held turns → NoneEarlier m turns → NoneBefore valueWidth terms m held (events turns)
   none-before m held [] made late = tt
   none-before m held (turn ∷ turns) made late = (
     λ ok. late .0 (subst Accepted (sym (by-model terms held (turn .event) (turn .came) (made .0))) ok),
-    subst (λ (h : HeldLog). NoneBefore valueWidth terms m h (events turns)) (after-one held turn (made .0)) (none-before m (heldAfter held turn) turns (made .1) (late .1)),
+    subst (λ (h : HeldLog). NoneBefore valueWidth terms m h (events turns)) (after-one held turn (made .0)) (none-before m (heldAfter held (turn .came)) turns (made .1) (late .1)),
   )
 
 module _ (appends : AppendCalls) (reports : ReportCalls) (appends-by-model : AppendsByModel appends) (reports-by-model : ReportsByModel reports) where

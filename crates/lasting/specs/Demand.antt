@@ -6,7 +6,7 @@ use mathlib.Core.List.{List, [], _∷_}
 use Rattle.model.specs.Lists.{All}
 use Rattle.model.specs.Records.{valueWidth, stampIn}
 use Rattle.model.specs.Calls.{Outcome}
-use Rattle.model.specs.Lasting.{Accepted, HeldLog, usedAfter, Remains, bytesBefore, SameReport}
+use Rattle.model.specs.Lasting.{Accepted, HeldLog, heldAfter, Remains, bytesBefore, SameReport}
 
 -- which appends were made: under terms, on a held log, of an event, with what came of it
 abbrev pub AppendCalls : Type 1
@@ -23,19 +23,15 @@ pub record Turn : Type 0 where
   -- its answer, and every byte of the buffer that it left
   pub came : Outcome
 
--- the log held behind it: the buffer that it left, with the used length that goes on
-unfoldable pub heldAfter : HeldLog → Turn → HeldLog
-heldAfter held turn = record { buffer = turn .came .left; used = usedAfter (turn .came .answer .number) (turn .came .answer .value) (held .used) }
-
 -- the log held behind a list of them, the first append first
 unfoldable pub heldAtEnd : HeldLog → List Turn → HeldLog
 heldAtEnd held [] = held
-heldAtEnd held (turn ∷ turns) = heldAtEnd (heldAfter held turn) turns
+heldAtEnd held (turn ∷ turns) = heldAtEnd (heldAfter held (turn .came)) turns
 
 -- each append of the list was made under the terms, on the log held behind the one before it
 abbrev pub InTurn : AppendCalls → List ℕ → HeldLog → List Turn → Type 0
 InTurn appends terms held [] = Unit {0}
-InTurn appends terms held (turn ∷ turns) = appends terms held (turn .event) (turn .came) × InTurn appends terms (heldAfter held turn) turns
+InTurn appends terms held (turn ∷ turns) = appends terms held (turn .event) (turn .came) × InTurn appends terms (heldAfter held (turn .came)) turns
 
 -- no event that was accepted is stamped before m; refused ones may hold anything
 abbrev pub NoneEarlier : ℕ → List Turn → Type 0

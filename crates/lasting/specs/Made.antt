@@ -7,14 +7,13 @@ use contract.Lifetimes.{Lfts}
 use denote.Ref.{now}
 use denote.Triple.Clauses.{AtExit}
 use borrow.Fn.Kinds.{Dens, endedOf}
-use Rattle.model.specs.Answers.{Answer, appendedAnswer, reportedAnswer}
+use Rattle.model.specs.Answers.{Answer, appendedAnswer, reportedAnswer, unpacked}
 use Rattle.model.specs.Calls.{Outcome}
 use Rattle.model.specs.Lasting.{HeldLog}
 use Rattle.append.proofs.append.Kinds as appendKinds
 use Rattle.append.proofs.append.Reads as appendReads
 use Rattle.report.proofs.report.Kinds as reportKinds
 use Rattle.report.proofs.report.Reads as reportReads
-use Rattle.service.specs.Exports.{unpacked}
 use Rattle.service.proofs.agreements_append.Reads as servedAppendReads
 use Rattle.service.proofs.agreements_report.Reads as servedReportReads
 use Rattle.lasting.specs.Demand.{AppendCalls, ReportCalls}

@@ -1,5 +1,5 @@
 -- Answers: number and value tell the case, and the one number of the library service tells number and value. Assumes nothing.
-use Prim.Native.Nat.{ℕ, _-_, _/_, _%_, _≤_, _<_}
+use Prim.Native.Nat.{ℕ, _+_, _*_, _-_, _/_, _%_, _≤_, _<_}
 use native.Mathlib.Omega.{arith}
 use mathlib.Core.Path.{_≡_, refl, ap, sym, _∙_}
 use mathlib.Core.List.{List, [], _∷_}
@@ -14,7 +14,7 @@ use Rattle.model.specs.declared.Reported.{Reported}
 use Rattle.model.specs.declared.Reported.the-variants as reportedCase
 use Rattle.model.specs.declared.Standing.{Standing}
 use Rattle.model.specs.declared.Standing.the-variants as standingCase
-use Rattle.model.specs.Answers.{refusalNumber, Answer, StandingAnswer, checkedAnswer, appendedAnswer, reportedAnswer, standingAnswer, packed}
+use Rattle.model.specs.Answers.{refusalNumber, Answer, StandingAnswer, checkedAnswer, appendedAnswer, reportedAnswer, standingAnswer, packed, unpacked}
 
 -- the refusals in the order of the table
 refusals : List Refusal
@@ -80,10 +80,13 @@ standing-told (standingCase.Shown x) (standingCase.Refused y) e = absurd (omega 
 standing-told (standingCase.Refused x) (standingCase.Shown y) e = absurd (omega (arith, refusal-positive x, ap (λ (r : StandingAnswer). r .number) e))
 standing-told (standingCase.Refused x) (standingCase.Refused y) e = ap standingCase.Refused (refusal-told x y (ap (λ (r : StandingAnswer). r .number) e))
 
--- the one number is split again by 4,294,967,296
-pub packed-told : (a : Answer) → a .value < 4294967296 → (packed a / 4294967296 ≡ a .number) × (packed a % 4294967296 ≡ a .value)
-unfolding packed
-packed-told a h = (omega arith, omega arith)
+-- the one number is split into the answer again
+pub packed-split : (a : Answer) → a .value < 4294967296 → unpacked (packed a) ≡ a
+unfolding packed unpacked
+packed-split a h =
+    let number : (a .number * 4294967296 + a .value) / 4294967296 ≡ a .number = omega arith in
+    let value : (a .number * 4294967296 + a .value) % 4294967296 ≡ a .value = omega arith in
+    λ i. record { number = number i; value = value i }
 
 -- what the library service gets in each case
 pub packed-cases : packed (checkedAnswer checkedCase.Accepted) ∷ packed (checkedAnswer (checkedCase.Refused CitationTooHigh))

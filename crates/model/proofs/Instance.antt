@@ -12,7 +12,7 @@ use Rattle.model.proofs.Computes.{computes}
 use Rattle.model.proofs.Sample.{terms, log, writing, rest, row}
 
 -- the sample log in a buffer of 80 bytes
-abbrev held : HeldLog
+abbrev pub held : HeldLog
 held = record { buffer = log 45 ++ rest 24; used = 56 }
 
 -- Written (5, 3) at 44, then at 45
@@ -41,7 +41,7 @@ pub record Instance : Type 0 where
   pub rows : (flatten (rowsLeft valueWidth 45 (reportOn valueWidth terms after 46 (rest 60))) ≡ row 1 10 ++ row 2 30) × (rowsGiven valueWidth (reportOn valueWidth terms held 45 (rest 54)) ≡ row 1 10 ++ row 2 30)
 
 -- two logs that differ from 45 on, neither an extension of the other
-abbrev other : HeldLog
+abbrev pub other : HeldLog
 other = record { buffer = log 129; used = 56 }
 
 -- the premises of the second half hold too, and the reports have rows

@@ -18,7 +18,7 @@ use Rattle.model.specs.Log.{Record}
 use Rattle.model.specs.Rows.{strike}
 use Rattle.model.specs.Records.{stampIn, recordFrom, readLog, recordsIn, rowBytes, timeIn}
 use Rattle.model.specs.Calls.{termsOf, logOf, rowsOf, append, report}
-use Rattle.model.specs.Lasting.{Accepted, HeldLog, usedAfter, afterAppend, afterAppends, NoneBefore, reportOn, rowsGiven, rowsLeft, ReportLasts, bytesBefore, AlikeReportSame, Lasting}
+use Rattle.model.specs.Lasting.{Accepted, HeldLog, usedAfter, heldAfter, afterAppend, afterAppends, NoneBefore, reportOn, rowsGiven, rowsLeft, ReportLasts, bytesBefore, AlikeReportSame, Lasting}
 use Rattle.model.proofs.ListLaws.{all-imp, all-of, flatten-map}
 use Rattle.model.proofs.StrikeLaws.{strike-append, strike-all, strike-map}
 use Rattle.model.proofs.RecordLaws.{OneRecord}
@@ -39,13 +39,13 @@ held-records w terms held = readLog w (termsOf terms) (take (held .used) (held .
 module _ (w : ℕ) (terms : List ℕ) (held : HeldLog) (event : List ℕ) where
   -- a refused append leaves the log as it was held
   after-refused : (n : ℕ) → append w terms (held .buffer) (held .used) event .answer .number ≡ suc n → afterAppend w terms held event ≡ held
-  unfolding afterAppend usedAfter
+  unfolding afterAppend heldAfter usedAfter
   after-refused n e = rw (e, append-refused w terms (held .buffer) (held .used) event (λ z. absurd (omega arith)) .same)
 
   -- an accepted append adds its event to the records
   records-after : Accepted (append w terms (held .buffer) (held .used) event)
       → held-records w terms (afterAppend w terms held event) ≡ held-records w terms held ++ (event ∷ [])
-  unfolding afterAppend usedAfter
+  unfolding afterAppend heldAfter usedAfter
   records-after ok =
       ap (λ (s : List ℕ). readLog w (termsOf terms) s .0) (rw (ok, usedAfter) (append-keeps w terms (held .buffer) (held .used) event ok .used-bytes))
       ∙ ap (λ (x : List (List ℕ) × List ℕ). x .0)

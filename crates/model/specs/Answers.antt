@@ -1,5 +1,5 @@
 -- What each case of the answers stands for: document 01, 'Calls', the table and the paragraph behind it. Assumes nothing: these are definitions.
-use Prim.Native.Nat.{ℕ, _+_, _*_}
+use Prim.Native.Nat.{ℕ, _+_, _*_, _/_, _%_}
 use Rattle.model.specs.declared.Refusal.{Refusal}
 use Rattle.model.specs.declared.Refusal.the-variants.{TermsTooLong, BrokenGrammar, FieldOutOfRange, CitationTooHigh, NothingShared, UsedTooLong, BrokenRecord, StampFalls, KeyRepeats, PageTooShort, NotOneRecord, StampTooLow, KeyPresent, NoRoom, NoSchema, NoSubject}
 use Rattle.model.specs.declared.Checked.{Checked}
@@ -69,3 +69,7 @@ standingAnswer (standingCase.Refused x) = record { number = refusalNumber x; ent
 -- the answer as the library service gets it, in 64 bits (calls, last sentence)
 unfoldable pub packed : Answer → ℕ
 packed a = a .number * 4294967296 + a .value
+
+-- the answer that the library service splits this number into (calls, last sentence)
+unfoldable pub unpacked : ℕ → Answer
+unpacked n = record { number = n / 4294967296; value = n % 4294967296 }

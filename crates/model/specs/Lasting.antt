@@ -25,11 +25,13 @@ unfoldable pub usedAfter : ℕ → ℕ → ℕ → ℕ
 usedAfter zero returned used = returned
 usedAfter (suc n) returned used = used
 
+-- the held log after an append with this outcome: the buffer that it left, and the used length that goes on
+unfoldable pub heldAfter : HeldLog → Outcome → HeldLog
+heldAfter held o = record { buffer = o .left; used = usedAfter (o .answer .number) (o .answer .value) (held .used) }
+
 -- the held log after one append call
 unfoldable pub afterAppend : ℕ → List ℕ → HeldLog → List ℕ → HeldLog
-afterAppend w terms held event =
-    let o = append w terms (held .buffer) (held .used) event in
-    record { buffer = o .left; used = usedAfter (o .answer .number) (o .answer .value) (held .used) }
+afterAppend w terms held event = heldAfter held (append w terms (held .buffer) (held .used) event)
 
 -- the held log after a list of append calls, the first call first
 unfoldable pub afterAppends : ℕ → List ℕ → HeldLog → List (List ℕ) → HeldLog

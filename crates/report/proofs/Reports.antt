@@ -6,7 +6,7 @@
 -- Assumes nothing.
 use Prim.Native.Nat.{ℕ, _*_, _≤_, _<_}
 use native.Mathlib.Omega.{arith}
-use mathlib.Core.Path.{_≡_, sym}
+use mathlib.Core.Path.{_≡_}
 use mathlib.Core.Bool.{false}
 use mathlib.Core.List.{List, _++_}
 use lib.Dec.{ltb}
@@ -18,11 +18,10 @@ use Rattle.model.specs.declared.Refusal.the-variants.{PageTooShort}
 use Rattle.model.specs.declared.Checked.{Checked}
 use Rattle.model.specs.declared.Checked.the-variants as checkedCase
 use Rattle.model.specs.declared.Reported.the-variants as reportedCase
-use Rattle.model.specs.Answers.{refusalNumber, checkedAnswer, reportedAnswer}
+use Rattle.model.specs.Answers.{checkedAnswer, reportedAnswer}
 use Rattle.model.specs.Records.{valueWidth, rowLength}
 use Rattle.model.specs.Calls.{Check, refusal, logLimit, usedTooLong, logChecks, pageTooShort, pageChecks, checkLog, outcome, unlessRefused, onPage, rowsOf, report}
 use Rattle.model.proofs.BoolLaws.{or-false}
-use Rattle.model.proofs.AnswerLaws.{refusal-positive}
 use Rattle.model.proofs.WriteLaws.{refused-outcome}
 use Rattle.log.proofs.Checks.{used-inside, log-refused}
 use Rattle.report.specs.Shown.{schemasFrom, withRows}
@@ -39,8 +38,7 @@ module _ (terms log : List ℕ) (used m : ℕ) (page : List ℕ) where
   pub report-refused : {found : Checked} {x : Refusal} → found ≡ checkedCase.Refused x → checkedAnswer found ≡ checkLog valueWidth terms log used
       → outcome (reportedAnswer (reportedCase.Refused x)) page ≡ report valueWidth terms log used m page
   unfolding reportedAnswer report onPage
-  report-refused {found} {x} is e =
-      rw (log-refused terms log used is e (pageChecks valueWidth (rowsOf valueWidth terms log used m) page)) (sym (refused-outcome (refusalNumber x) page _ (refusal-positive x)))
+  report-refused {found} {x} is e = refused-outcome x (log-refused terms log used is e (pageChecks valueWidth (rowsOf valueWidth terms log used m) page)) page _
 
   module _ (kept : (more : List Check) → refusal (logChecks valueWidth terms log used ++ more) ≡ refusal more)
       {count : ℕ} (counted : count ≡ length (schemasFrom terms (take used log) m 0)) where

@@ -1,18 +1,11 @@
--- An answer by its cases: what is packed for the case that was found is what the service gets. Assumes nothing.
+-- What the library service gets of a call that may write. Assumes nothing.
 use Prim.Native.Nat.{ℕ}
-use mathlib.Core.Path.{_≡_, ap, sym, _∙_}
+use mathlib.Core.Path.{_≡_, ap, _∙_}
 use mathlib.Core.List.{List}
 use Rattle.model.specs.Answers.{Answer, packed}
-use Rattle.model.specs.Calls.{Outcome, outcome}
-use Rattle.service.specs.Exports.{served}
+use Rattle.model.specs.Calls.{Outcome, outcome, served}
 
--- how the cases of an answer are numbered, and which one was found
-module _ {A : Type 0} (answerOf : A → Answer) {found case : A} (is : found ≡ case) {r : ℕ} (number : r ≡ packed (answerOf case)) where
-  -- of a call that writes nothing
-  pub packed-as : {a : Answer} → answerOf found ≡ a → r ≡ packed a
-  packed-as e = number ∙ ap (λ (x : A). packed (answerOf x)) (sym is) ∙ ap packed e
-
-  -- of a call that may write
-  pub served-as : {left : List ℕ} {o : Outcome} → outcome (answerOf found) left ≡ o → (r, left) ≡ served o
-  unfolding served
-  served-as {left} e = ap (λ (n : ℕ). (n, left)) (number ∙ ap (λ (x : A). packed (answerOf x)) (sym is)) ∙ ap served e
+-- the answer packed, and the bytes that are left
+pub served-as : {r : ℕ} {a : Answer} {left : List ℕ} {o : Outcome} → r ≡ packed a → outcome a left ≡ o → (r, left) ≡ served o
+unfolding served
+served-as {left = left} number e = ap (λ (n : ℕ). (n, left)) number ∙ ap served e

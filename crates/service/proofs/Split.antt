@@ -3,15 +3,14 @@
 -- order, the answer r, and the arguments s as the call leaves them. Assumes nothing.
 use Prim.Native.Nat.{ℕ, _<_}
 use native.Mathlib.Omega.{arith}
-use mathlib.Core.Path.{_≡_, ap}
+use mathlib.Core.Path.{_≡_, ap, _∙_}
 use mathlib.Core.List.{List}
 use contract.Lifetimes.{Lfts}
 use denote.Ref.{now}
-use Rattle.model.specs.Answers.{Answer, packed}
+use Rattle.model.specs.Answers.{Answer, packed, unpacked}
 use Rattle.model.specs.Records.{valueWidth}
-use Rattle.model.specs.Calls.{checked, checkTerms, checkLog, append, report}
-use Rattle.model.proofs.AnswerLaws.{packed-told}
-use Rattle.service.specs.Exports.{served, unpacked}
+use Rattle.model.specs.Calls.{checked, checkTerms, checkLog, append, report, served}
+use Rattle.model.proofs.AnswerLaws.{packed-split}
 use Rattle.service.proofs.Values.{append-below, report-below}
 use Rattle.service.proofs.agreements_check_terms.Reads as check-terms
 use Rattle.service.proofs.agreements_check_log.Reads as check-log
@@ -20,8 +19,7 @@ use Rattle.service.proofs.agreements_report.Reads as reporting
 
 -- an answer whose value is below 4,294,967,296
 split-below : {r : ℕ} (a : Answer) → a .value < 4294967296 → r ≡ packed a → unpacked r ≡ a
-unfolding unpacked
-split-below a h e = let told = packed-told a h in rw (e, told .0, told .1)
+split-below a h e = ap unpacked e ∙ packed-split a h
 
 -- call 1
 pub check-terms-splits : (κs : Lfts 1) (a : _) (r : _) (s : _) → check-terms.Learnt κs a r s → let terms = now (a .0) in unpacked r ≡ checkTerms terms

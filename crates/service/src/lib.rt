@@ -5,16 +5,45 @@ use model::Reported;
 ghost use mathlib.Core.Path.{_≡_};
 ghost use Prim.Native.Nat.{_+_, _*_, _<_, _^_};
 ghost use Rattle.model.specs.Records.{valueWidth};
-ghost use Rattle.model.specs.Answers.{packed};
-ghost use Rattle.model.specs.Calls.{checkTerms, checkLog, append, report};
-ghost use Rattle.service.specs.Exports.{served};
+ghost use Rattle.model.specs.Answers.{checkedAnswer, appendedAnswer, reportedAnswer, packed};
+ghost use Rattle.model.specs.Calls.{checkTerms, checkLog, append, report, served};
 
 // A refusal's number, or 0, and a count or length, or 0, in one number.
-fn packed(number: u64, value: u64) -> u64
+fn pack(number: u64, value: u64) -> u64
     requires { ⌜ number * 4294967296 + value < 2 ^ 64 ⌝ }
-    ensures { λ r. ⌜ r ≡ number * 4294967296 + value ⌝ }
+    ensures { λ r. ⌜ r ≡ packed (record { number = number; value = value }) ⌝ }
 {
     number * 4294967296 + value
+}
+
+// The answer of a check in one number.
+fn pack_checked(checked: Checked) -> u64
+    ensures { λ r. ⌜ r ≡ packed (checkedAnswer checked) ⌝ }
+{
+    match checked {
+        Checked::Accepted => pack(0, 0),
+        Checked::Refused(refusal) => pack(refusal.number() as u64, 0),
+    }
+}
+
+// The answer of an append in one number.
+fn pack_appended(appended: Appended) -> u64
+    ensures { λ r. ⌜ r ≡ packed (appendedAnswer appended) ⌝ }
+{
+    match appended {
+        Appended::Length(length) => pack(0, length as u64),
+        Appended::Refused(refusal) => pack(refusal.number() as u64, 0),
+    }
+}
+
+// The answer of a report in one number.
+fn pack_reported(reported: Reported) -> u64
+    ensures { λ r. ⌜ r ≡ packed (reportedAnswer reported) ⌝ }
+{
+    match reported {
+        Reported::Count(count) => pack(0, count as u64),
+        Reported::Refused(refusal) => pack(refusal.number() as u64, 0),
+    }
 }
 
 // Call 1: check terms.
@@ -22,10 +51,7 @@ fn packed(number: u64, value: u64) -> u64
 pub extern "C" fn agreements_check_terms(terms: &[u8]) -> u64
     ensures { λ r. ⌜ r ≡ packed (checkTerms (now (terms .entry))) ⌝ }
 {
-    match terms::check_terms(terms) {
-        Checked::Accepted => packed(0, 0),
-        Checked::Refused(refusal) => packed(refusal.number() as u64, 0),
-    }
+    pack_checked(terms::check_terms(terms))
 }
 
 // Call 2: check a log under terms.
@@ -33,10 +59,7 @@ pub extern "C" fn agreements_check_terms(terms: &[u8]) -> u64
 pub extern "C" fn agreements_check_log(terms: &[u8], log: &[u8], used: usize) -> u64
     ensures { λ r. ⌜ r ≡ packed (checkLog valueWidth (now (terms .entry)) (now (log .entry)) used) ⌝ }
 {
-    match log::check_log(terms, log, used) {
-        Checked::Accepted => packed(0, 0),
-        Checked::Refused(refusal) => packed(refusal.number() as u64, 0),
-    }
+    pack_checked(log::check_log(terms, log, used))
 }
 
 // Call 3: append an event to a log.
@@ -44,10 +67,7 @@ pub extern "C" fn agreements_check_log(terms: &[u8], log: &[u8], used: usize) ->
 pub extern "C" fn agreements_append(terms: &[u8], log: &mut [u8], used: usize, event: &[u8]) -> u64
     ensures { λ r. ⌜ (r, now (log .exit)) ≡ served (append valueWidth (now (terms .entry)) (now (log .entry)) used (now (event .entry))) ⌝ }
 {
-    match append::append(terms, log, used, event) {
-        Appended::Length(length) => packed(0, length as u64),
-        Appended::Refused(refusal) => packed(refusal.number() as u64, 0),
-    }
+    pack_appended(append::append(terms, log, used, event))
 }
 
 // Call 4: report at a moment.
@@ -61,8 +81,5 @@ pub extern "C" fn agreements_report(
 ) -> u64
     ensures { λ r. ⌜ (r, now (page .exit)) ≡ served (report valueWidth (now (terms .entry)) (now (log .entry)) used moment (now (page .entry))) ⌝ }
 {
-    match report::report(terms, log, used, moment, page) {
-        Reported::Count(count) => packed(0, count as u64),
-        Reported::Refused(refusal) => packed(refusal.number() as u64, 0),
-    }
+    pack_reported(report::report(terms, log, used, moment, page))
 }

@@ -1,31 +1,12 @@
--- `agreements_check_terms` meets its contract: what call 1 answers, in one number. Assumes nothing.
-use native.Mathlib.Omega.{arith}
+-- `agreements_check_terms` meets its contract: the answer of call 1, in one number. Assumes nothing.
+use mathlib.Core.Path.{ap, _∙_}
 use borrow.Author.Needs.{needs}
-use Rattle.model.specs.Answers.{checkedAnswer, packed}
-use Rattle.service.proofs.Serving.{packed-as}
+use Rattle.model.specs.Answers.{packed}
 use Rattle.service.proofs.agreements_check_terms.Statement.{statement}
 use Rattle.service.proofs.agreements_check_terms.Tie as tie
 
 returns : tie.Need-returns
-unfolding checkedAnswer packed
-returns c = packed-as checkedAnswer (c .before .enum-told .given .1) (c .packed .ensures) (c .before .before .before .check-terms .ensures)
-
-returns-2 : tie.Need-returns-2
-unfolding checkedAnswer packed
-returns-2 c =
-    packed-as checkedAnswer (c .before .before .before .refusal .given .1) (omega (arith, c .packed2 .ensures, c .before .number .ensures))
-    (c .before .before .before .before .before .check-terms .ensures)
+returns c = c .pack-checked .ensures ∙ ap packed (c .before .check-terms .ensures)
 
 pub agreements-check-terms-spec : {M : Type 1} → statement M
-agreements-check-terms-spec =
-    tie.close
-    (tie.spec
-    (λ c κs. search needs)
-    (λ c. search needs)
-    (λ c κs. search needs)
-    (λ c. search needs)
-    (λ c κs. search needs)
-    (λ c. search needs)
-    (λ c κs. search needs)
-    returns
-    returns-2)
+agreements-check-terms-spec = tie.close (tie.spec (λ c κs. search needs) (λ c κs. search needs) returns)

@@ -1,2 +1,0 @@
--- What the library service gets, over the model's calls.
-pub mod Exports
