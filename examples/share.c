@@ -1,6 +1,6 @@
 /*
  * The sample share. Its terms are checked, four events are appended to an empty log, and a report is printed; then one event is refused and one
- * accepted, and a later report is printed. In the folder of crates.txt:
+ * accepted, and a later report is printed, in which the first one's rows stand again. In the folder of crates.txt:
  *
  *     rt staticlib service
  *     gcc -std=c99 -Wall -Wextra -Werror -pedantic -Iinclude examples/share.c target/staticlib/libservice.a -o target/share
@@ -100,7 +100,7 @@ int main(void)
     used = accepted("Revoked at 30", append(used, revoked_at_30, sizeof revoked_at_30));
     used = accepted("Written at 45", append(used, written_at_45, sizeof written_at_45));
     accepted("log", agreements_check_log(terms, sizeof terms, buffer, sizeof buffer, used));
-    print_report(used, 46);
+    print_report(used, 45);
 
     /* Stamped before the last record: refused, and the used length goes on as it is. */
     answer = append(used, another_at_44, sizeof another_at_44);
@@ -109,6 +109,8 @@ int main(void)
 
     used = accepted("another write at 45", append(used, another_at_45, sizeof another_at_45));
     printf("another write at 45: used length %lu\n", (unsigned long)used);
-    print_report(used, 140);
+
+    /* No accepted event was stamped before 45. So the report at 45 lasts: its rows are those of this one that are timed before 45. */
+    print_report(used, 46);
     return 0;
 }

@@ -56,7 +56,7 @@ module _ (terms log : List ℕ) (k subject : ℕ) where
   first-here e p = p ∙ sym (first-whole _ _ _ _ e)
 
   module _ (b : Bound) (e : Event) (n : ℕ) {r : Time} (here : r ≡ under first terms log k subject e) where
-    -- an event that never happens leaves its bound unknown
+    -- without a happening of its event a bound is unknown
     pub event-never : (b ≡ Plus e n) ⊎ (b ≡ Minus e n) → r ≡ Never → Unknown ≡ knownAs b (under known terms log k subject b)
     unfolding under known knownAs
     event-never (inl p) q = rw p (sym (ap (knownAs (Plus e n)) (sym here ∙ q)))

@@ -1,4 +1,5 @@
--- Demand 3 in force (specs/Demand.antt): what calls 3 and 4 return and leave in memory lasts, whatever their contracts allow (specs/Made.antt).
+-- Demand 3 in force: the statement of specs/Demand.antt, for every result and all memory at exit that the contracts of calls 3 and 4 allow
+-- (specs/Made.antt).
 --     calls-last          calls that come to what the model says of them last, by the model's theorem
 --     append-by-model     a call of append comes to it where its contract says so;     report-by-model     so does one of report
 --     in-force            demand 3 for `append::append` and `report::report`

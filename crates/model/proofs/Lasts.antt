@@ -83,7 +83,7 @@ records-alike w terms m cs ds e = struck cs ∙ ap (map (recordFrom w terms)) e 
     struck : (l : List (List ℕ)) → recordsBefore m (map (recordFrom w terms) l) ≡ map (recordFrom w terms) (strike stampIn m l)
     struck l = strike-map stampIn (λ (r : Record). r .stamp) (recordFrom w terms) m l (all-of (λ c. recordFrom w terms c .stamp ≡ stampIn c) (λ c. refl) l)
 
--- each row of a report is timed by its last four bytes
+-- the time of a row is in its last four bytes
 rows-timed : (w : ℕ) (terms log : List ℕ) (used m : ℕ) → All (λ x. timeIn w (rowBytes w x) ≡ x .time) (rowsOf w terms log used m)
 unfolding lastMinute
 rows-timed w terms log used m =

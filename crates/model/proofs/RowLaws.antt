@@ -58,7 +58,7 @@ strike-subject terms log m j r = go (isSubject terms j r)
     go true = strike-flatMap _ m _ stages ∙ ap (λ (f : Stage → List Row). flatMap f stages) (fun-ext λ s. strike-rowAt terms m j r s _)
     go false = refl
 
--- The rows stand in the stated order: for each schema, each subject in log order, each stage 1 to 5, a row if the time is before the moment.
+-- The rows come by schema, within it by the place of the subject in the log, within that by stage, as far as a stage is reached before the moment.
 pub report-order : (terms : Terms) (log : Log) (m : ℕ)
     → reportRows terms log m ≡ flatMap (λ j. flatMap (subjectRowsAt terms log m j) log) (numbersFrom 0 (length (terms .schemas)))
 unfolding reportRows timedRows
