@@ -20,7 +20,7 @@
  * Time
  * A stage that a clause cites is worked out anew for each citation and each record that matches, and so is each stage that this one cites
  * in turn. So the cost multiplies along a chain of citations, and a report under accepted terms can take very long. For a log of one record
- * and a chain of schemas, each clause a leaf that cites the clause before it in its event and in both bounds, four schemas took 0.05 s, five
+ * and a chain of schemas, each clause a leaf that cites the stage before it in its event and in both bounds, four schemas took 0.05 s, five
  * took 2.6 s, and each further one takes some fifty times as long. A service that takes terms from strangers bounds this itself, by the
  * length of such chains or by a time after which it gives up. The other calls do not work out stages.
  */
