@@ -6,7 +6,7 @@
  * `rt staticlib service` writes.
  *
  * Memory
- * - A pointer and the length behind it lend so many bytes for the time of the call. Each of them has been set before, those of a page and
+ * - A pointer and the length behind it lend so many bytes for the time of the call. Each of these bytes is initialised, those of a page and
  *   of the unused end of a log buffer too.
  * - What a call may write (an append the log buffer, a report the page) has no byte in common with anything else lent to that call. No
  *   call checks this.
@@ -60,8 +60,10 @@ enum agreements_refusal {
     AGREEMENTS_TERMS_TOO_LONG = 1,     /* they have more than 16,384 bytes */
     AGREEMENTS_BROKEN_GRAMMAR = 2,     /* they are not 1 to 32 kinds, then 1 to 16 schemas of a head and three expressions of up to 31 items,
                                           all of them whole, and nothing more */
-    AGREEMENTS_FIELD_OUT_OF_RANGE = 3, /* a field has a value that it may not have */
-    AGREEMENTS_CITATION_TOO_HIGH = 4,  /* a clause cites a stage of its own rank or of a higher one */
+    AGREEMENTS_FIELD_OUT_OF_RANGE = 3, /* a kind's number is not its place, a mask is 0, a key or a party is not in its kind's mask, a norm
+                                          type, kind, form or sign is not there, an offset is above 2,147,483,647, or what has to be 0
+                                          is not */
+    AGREEMENTS_CITATION_TOO_HIGH = 4,  /* a clause cites a stage of its own rank or of a higher one (docs/FORMAT.md, Citations) */
     AGREEMENTS_NOTHING_SHARED = 5,     /* the kind of an event in a clause (of a stage: its subject kind) has no attribute in common with
                                           the subject kind */
 
@@ -115,10 +117,10 @@ uint64_t agreements_append(const uint8_t *terms, size_t terms_length, uint8_t *l
  * log, then by stage. The value is how many there are, at most five for each record under each schema. The bytes behind the rows do not
  * change, and with a refusal none does.
  *
- * A report lasts. Let it be accepted; let appends to the same buffer follow it, accepted or refused, under the same terms and with the used
- * length that goes on, and let nobody else write to terms or log. If no accepted event is stamped before the report's moment, then a later
- * report that is accepted, at that moment or after it, has these very rows and no others once those timed at the first moment or later are
- * struck out.
+ * A report lasts. Let it be accepted; let appends follow it, accepted or refused, and then a later report, accepted and at the same moment or
+ * after it; let all of them be given the same terms, the same log buffer and the used length that goes on, and let nobody else write to
+ * terms or log. If no accepted event is stamped before the first report's moment, then the later one has the first one's rows and no others,
+ * once those timed at the first one's moment or later are struck out.
  */
 uint64_t agreements_report(const uint8_t *terms, size_t terms_length, const uint8_t *log, size_t log_length, size_t used,
                            uint32_t moment, uint8_t *page, size_t page_length);

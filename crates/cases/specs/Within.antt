@@ -8,9 +8,9 @@ use Rattle.cases.specs.Lends.{Lends}
 -- Its name and its end are places of the text; its terms, its log and its event fill no more than their buffers.
 pub record Within (case : Case) (text terms log event : List ℕ) : Type 0 where
   -- the name ends behind its start
-  pub named : case .name ≤ case .behind
+  pub named : case .name ≤ case .until
   -- and before the case does
-  pub name-ends : case .behind ≤ case .at
+  pub name-ends : case .until ≤ case .at
   -- the case ends inside the text
   pub ends : case .at ≤ length text
   -- its terms are in their buffer

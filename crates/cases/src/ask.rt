@@ -154,8 +154,8 @@ fn check_of(of_log: bool) -> Ask
     Ask::Terms
 }
 
-// The call that is asked for behind terms, log and event: call 3 if there is an event; without any word for a call, call 2 if the text goes on
-// behind the terms, else call 1.
+// The call that is asked for behind terms, log and event: call 3 if there is an event; without any word for a call, call 2 if log, held or used
+// stands behind the terms, else call 1.
 pub(crate) fn read_call(text: &[u8], behind_terms: usize, behind_log: usize, from: usize) -> Call
     requires { ⌜ from ≤ length (now text) ⌝ }
     ensures { λ r. ⌜ (from ≤ r .at) × (r .at ≤ length (now (text .entry))) × Lends (r .ask) ⌝ }

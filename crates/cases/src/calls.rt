@@ -18,6 +18,9 @@ use terms::check_terms;
 ghost use Prim.Native.Nat.{_≤_};
 ghost use Rattle.cases.specs.Lends.{Lends};
 
+// How many bytes a log buffer has room for.
+pub(crate) const LOG_LENGTH: usize = 40000;
+
 // Fills a buffer with the first bytes of another, and behind its end with 0.
 fn copy_from(from: &[u8], to: &mut [u8]) {
     let mut i: usize = 0;
@@ -29,7 +32,7 @@ fn copy_from(from: &[u8], to: &mut [u8]) {
 
 // Asks for call 3 and prints the answer and what became of the buffer. The used length that goes on.
 fn run_append(terms: &[u8], log: &mut [u8], used: usize, event: &[u8]) -> usize {
-    let mut before = [0u8; 40000];
+    let mut before = [0u8; LOG_LENGTH];
     copy_from(log, &mut before);
     let appended = append(terms, log, used, event);
     show_appended(appended, used, &before, log)

@@ -9,6 +9,7 @@ mod text;
 use ask::Ask;
 use ask::read_call;
 use ask::read_used;
+use calls::LOG_LENGTH;
 use calls::run_call;
 use libc::STDIN_FILENO;
 use show::say;
@@ -57,7 +58,7 @@ struct Left {
 // length, and what is asked for.
 struct Case {
     name: usize,
-    behind: usize,
+    until: usize,
     at: usize,
     terms: usize,
     log: usize,
@@ -272,7 +273,7 @@ fn read_case(
     let ask = call.ask;
     Case {
         name: name.start,
-        behind: name.end,
+        until: name.end,
         at: call.at,
         terms: of_terms.length,
         log: held.log,
@@ -286,7 +287,7 @@ fn read_case(
 fn whole(text: &[u8], case: Case) -> bool
     requires { ⌜ case .at ≤ length (now text) ⌝ }
 {
-    if case.behind <= case.name {
+    if case.until <= case.name {
         return false;
     }
     if text.len() <= case.at {
@@ -300,12 +301,12 @@ fn run_case(text: &[u8], case: Case, terms: &[u8], log: &mut [u8], event: &[u8])
     requires { ⌜ Within case (now text) (now terms) (now log) (now event) ⌝ }
 {
     let name = case.name;
-    let behind = case.behind;
+    let until = case.until;
     let terms_length = case.terms;
     let log_length = case.log;
     let event_length = case.event;
     let ask = case.ask;
-    say(&text[name..behind]);
+    say(&text[name..until]);
     run_call(
         &terms[..terms_length],
         &mut log[..log_length],
@@ -347,7 +348,7 @@ fn run(text: &[u8], terms: &mut [u8], log: &mut [u8], event: &mut [u8]) {
 fn main() {
     let mut text = [0u8; 131072];
     let mut terms = [0u8; 20000];
-    let mut log = [0u8; 40000];
+    let mut log = [0u8; LOG_LENGTH];
     let mut event = [0u8; 256];
     let n = io::read_full(STDIN_FILENO, &mut text);
     if n == text.len() {

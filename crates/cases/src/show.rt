@@ -1,4 +1,5 @@
 // Prints what the calls answer.
+use crate::strike::TIME_AT;
 use crate::text::byte_or_zero;
 use crate::text::number_at;
 use crate::text::wide;
@@ -88,7 +89,7 @@ fn show_row(page: &[u8], at: usize)
     say_number(number_at(page, at + 2));
     say_number(number_at(page, at + 6));
     say_number(number_at(page, at + 10));
-    say_number(number_at(page, at + 14));
+    say_number(number_at(page, at + TIME_AT));
     say(b"\n");
 }
 

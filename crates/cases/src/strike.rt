@@ -5,7 +5,7 @@ ghost use Prim.Native.Nat.{_+_, _≤_};
 ghost use lib.ListN.{length};
 
 // Where a row has its time.
-const TIME_AT: usize = 14;
+pub(crate) const TIME_AT: usize = 14;
 
 // Moves a row to a place before it.
 fn move_row(rows: &mut [u8], at: usize, to: usize)

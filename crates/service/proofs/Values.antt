@@ -53,7 +53,7 @@ few-subject terms log m j r = go (isSubject terms j r)
     go true = few-each 1 (rowsAt terms log m j r) (λ s. few-at _ _) stages
     go false = omega arith
 
--- a log of 32,768 records has at most five times as many
+-- at most 32,768 records have at most 163,840 rows under a schema
 few-schema : (terms : Terms) (log : Log) (m j : ℕ) → length log ≤ 32768 → length (flatMap (subjectRowsAt terms log m j) log) ≤ 163840
 few-schema terms log m j h = omega (arith, few-each 5 (subjectRowsAt terms log m j) (few-subject terms log m j) log)
 
@@ -62,7 +62,7 @@ few-records : (terms : Terms) (s : List ℕ) → length (recordsIn valueWidth te
 unfolding recordsIn readLog
 few-records terms s = rw length-map (many-count (readRecord valueWidth terms) (length s) s)
 
--- so few bytes have few rows, since there are at most 16 schemas
+-- at most 32,768 bytes have at most 2,621,440 rows, since there are at most 16 schemas
 few-rows : (terms log : List ℕ) (used m : ℕ) → length (take used log) ≤ 32768 → length (rowsOf valueWidth terms log used m) ≤ 2621440
 unfolding schemasLimit rowsOf logOf
 few-rows terms log used m h =
@@ -73,7 +73,7 @@ few-rows terms log used m h =
     rw report-order
     (omega (arith, few-each 163840 rows (λ j. few-schema (termsOf terms) records m j few) (numbersFrom 0 schemas), numbers-count 0 schemas, schemas-count terms, file-read terms .2))
 
--- what is below where a call is accepted is so anyhow: with a refusal it is 0
+-- a bound on the value of an accepted call is one on every value, since with a refusal it is 0
 below : {value : ℕ} (number : ℕ) → (number ≡ 0 → value < 4294967296) → (¬ (number ≡ 0) → value ≡ 0) → value < 4294967296
 below zero accepted refused = accepted refl
 below (suc n) accepted refused = omega (arith, refused (λ e. omega (arith, e)))
