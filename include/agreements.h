@@ -2,8 +2,8 @@
  * How agreements stand under the terms of a shared library: the four calls for C99 and C++ on x86-64.
  *
  * Terms, log and rows are bytes; docs/FORMAT.md says what they hold and mean. Numbers of several bytes have their low byte first.
- * Each call answers one number, which agreements_number and agreements_value split. Link target/staticlib/libservice.a, which
- * `rt staticlib service` writes.
+ * Each call answers one number, refusal times 4,294,967,296 plus count or length, which agreements_number and agreements_value split. Link
+ * target/staticlib/libservice.a, which `rt staticlib service` writes.
  *
  * Memory
  * - A pointer and the length behind it lend so many bytes for the time of the call. Each of these bytes is initialised, those of a page and
