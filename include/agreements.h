@@ -21,8 +21,8 @@
  * A stage that a clause cites is worked out anew for each citation and each record that matches, and so is each stage that this one cites
  * in turn. So the cost multiplies along a chain of citations, and a report under accepted terms can take very long. For a log of one record
  * and a chain of schemas, each clause a leaf that cites the stage before it in its event and in both bounds, four schemas took 0.05 s, five
- * took 2.6 s, and each further one takes some fifty times as long. A service that takes terms from strangers bounds this itself, by the
- * length of such chains or by a time after which it gives up. The other calls do not work out stages.
+ * took 2.5 s, and six took two minutes. A service that takes terms from strangers bounds this itself, by the length of such chains or by a
+ * time after which it gives up. The other calls do not work out stages.
  */
 #ifndef AGREEMENTS_H
 #define AGREEMENTS_H
@@ -61,8 +61,8 @@ enum agreements_refusal {
     AGREEMENTS_BROKEN_GRAMMAR = 2,     /* they are not 1 to 32 kinds, then 1 to 16 schemas of a head and three expressions of up to 31 items,
                                           all of them whole, and nothing more */
     AGREEMENTS_FIELD_OUT_OF_RANGE = 3, /* a kind's number is not its place, a mask is 0, a key or a party is not in its kind's mask, a norm
-                                          type, kind, form or sign is not there, an offset is above 2,147,483,647, or what has to be 0
-                                          is not */
+                                          type, kind, form or sign is not there, a lower bound is open, an offset is above 2,147,483,647,
+                                          or what has to be 0 is not */
     AGREEMENTS_CITATION_TOO_HIGH = 4,  /* a clause cites a stage of its own rank or of a higher one (docs/FORMAT.md, Citations) */
     AGREEMENTS_NOTHING_SHARED = 5,     /* the kind of an event in a clause (of a stage: its subject kind) has no attribute in common with
                                           the subject kind */
