@@ -1,14 +1,19 @@
 -- An event's happenings, record by record, by what the code knows.
 --     alike, kind-other, kind-same                               whether it is of a kind and correlates, its kind compared first
 --     happens-not, happens-kind, happens-above, happens-stage    when an event happens by the record at a place
---     Scanned, scan-start, scan-step, scan-end                   the earliest happening in a window, record by record
+--     none-of-kind                                               a kind that is not declared has no records
+--     listed-stands, listed-of                                   what stands at a place of a list
+--     Scanned, scan-none, scan-start, scan-step, scan-skip, scan-end
+--                                                                the earliest happening in a window, record by record of the event's kind
 -- Assumes nothing.
-use Prim.Native.Nat.{ℕ, _-_, _≤_, _<_}
+use Prim.Native.Nat.{ℕ, _+_, _≤_, _<_}
+use native.Mathlib.Numerals.{add-one}
+use native.Mathlib.Omega.{arith}
 use mathlib.Core.Path.{_≡_, refl, sym, _∙_}
-use mathlib.Core.Bool.{Bool, true, false, _&&_}
-use mathlib.Core.List.{List, []}
+use mathlib.Core.Bool.{Bool, true, false, _&&_, and-false}
+use mathlib.Core.List.{List, [], _∷_, map}
 use lib.Dec.{eqb}
-use lib.ListN.{drop}
+use lib.ListN.{length, getD, drop, drop-of-length-le}
 use borrow.Author.Tests.{eq-eqb, ne-eqb}
 use Rattle.model.specs.declared.Time.{Time}
 use Rattle.model.specs.declared.Time.the-variants.{At, Never}
@@ -16,18 +21,22 @@ use Rattle.model.specs.declared.Stage.{Stage}
 use Rattle.model.specs.declared.Event.{Event}
 use Rattle.model.specs.declared.Event.the-variants.{Kind, StageOf}
 use Rattle.model.specs.declared.Edge.{Edge}
-use Rattle.model.specs.Time.{earlierOf}
-use Rattle.model.specs.Terms.{kindOf, rank}
-use Rattle.model.specs.Log.{Record, correlate}
+use Rattle.model.specs.declared.Edge.the-variants.{Minute, Endless}
+use Rattle.model.specs.Time.{earlierOf, before, from}
+use Rattle.model.specs.Terms.{Terms, kindOf, rank}
+use Rattle.model.specs.Log.{Record, Log, correlate}
 use Rattle.model.specs.Bytes.{byteAt}
 use Rattle.model.specs.Meaning.{cited, earliest, fromEdge, beforeEdge, timeBy, happening, firstWithin, stageTime}
-use Rattle.model.specs.Records.{valueWidth, recordsIn}
+use Rattle.model.specs.Lists.{All}
+use Rattle.model.specs.Records.{valueWidth}
 use Rattle.model.specs.Calls.{termsOf}
 use Rattle.model.proofs.WalkLaws.{kind-here}
 use Rattle.model.proofs.TimeLaws.{earlier-assoc, earlier-never}
 use Rattle.model.proofs.Equation.{cited-below, cited-above}
-use Rattle.log.specs.Holds.{recordAt}
-use Rattle.log.proofs.Steps.{Step}
+use Rattle.log.specs.Holds.{Stands, recordAt}
+use Rattle.log.specs.Listed.{ofKind, Lists}
+use Rattle.log.proofs.Listed.{list-step, all-in, stands-in, earliest-of-kind}
+use Rattle.log.proofs.Keys.{kinds-declared, listed-kind}
 use Rattle.evaluate.specs.Seen.{logIn, recordIn, stageIn, under}
 
 -- whether the record at a place is of a kind and correlates with the subject
@@ -85,28 +94,64 @@ module _ (terms log : List ℕ) (k subject at : ℕ) (event : Event) {kind : ℕ
   unfolding timeBy stageIn
   happens-stage {s} {j} f v h e = rw (happens-by f, v) (e ∙ sym (cited-below k _ s j _ h))
 
+-- no record of a log is of a kind that is not declared
+pub none-of-kind : (kinds kind : ℕ) (log : Log) → kinds ≤ kind → All (λ r. r .kind < kinds) log → ofKind kind log ≡ []
+unfolding ofKind
+none-of-kind kinds kind [] past all = refl
+none-of-kind kinds kind (r ∷ log) past all = rw (ne-eqb (r .kind) kind (λ e. absurd (omega (arith, all .0)))) (none-of-kind kinds kind log past (all .1))
+
+-- what never happens is in no window
+never-inside : (l u : Edge) → fromEdge l (beforeEdge u Never) ≡ Never
+unfolding fromEdge beforeEdge from before
+never-inside (Minute l) (Minute u) = refl
+never-inside (Minute l) Endless = refl
+never-inside Endless u = refl
+
+-- a record stands at each place of a list
+pub listed-stands : {t : Terms} {log list : List ℕ} {kind : ℕ} → Lists t log kind list → (i : ℕ) → i < length list → Stands t log (getD list i 0)
+listed-stands {t} {log} {list} has i h = stands-in t log list i (has .stand) h
+
+-- it is of the kind
+pub listed-of : {t : Terms} {log list : List ℕ} {kind : ℕ} → Lists t log kind list → (i : ℕ) → i < length list → byteAt log (getD list i 0) ≡ kind
+listed-of {t} {log} {list} {kind} has i h = all-in (λ at. byteAt log at ≡ kind) list i (listed-kind t log kind list has) h
+
 module _ (terms log : List ℕ) (k subject : ℕ) (l u : Edge) (event : Event) where
   -- a happening by a record, where it is in the window
   abbrev pub inWindow : Record → Time
   inWindow r = fromEdge l (beforeEdge u (happens terms log k subject event r))
 
-  -- the earliest so far, and the earliest of the records from a place on, make up the earliest of all
-  abbrev pub Scanned : Time → ℕ → Type 0
-  Scanned first at = under firstWithin terms log k subject l u event ≡ earlierOf first (earliest inWindow (recordsIn valueWidth (termsOf terms) (drop at log)))
+  -- the earliest so far, and the earliest of the records listed from a number on, make up the earliest of all
+  abbrev pub Scanned : Time → List ℕ → ℕ → Type 0
+  Scanned first list i = under firstWithin terms log k subject l u event ≡ earlierOf first (earliest inWindow (map (recordAt (termsOf terms) log) (drop i list)))
 
-  -- at the start all records are left
-  pub scan-start : Scanned Never 0
-  unfolding under firstWithin logIn earlierOf
-  scan-start = refl
+  -- only records of the event's kind count
+  of-kind : under firstWithin terms log k subject l u event ≡ earliest inWindow (ofKind (kindOf (termsOf terms) event) (logIn terms log))
+  unfolding under firstWithin happening
+  of-kind = sym (earliest-of-kind inWindow (kindOf (termsOf terms) event) (λ r e. rw (e, happening) (never-inside l u)) (logIn terms log))
 
-  module _ (first : Time) (at : ℕ) (sofar : Scanned first at) where
+  -- a kind that is not declared has no records
+  pub scan-none : {kind : ℕ} → kind ≡ kindOf (termsOf terms) event → length (termsOf terms .kinds) ≤ kind → Never ≡ under firstWithin terms log k subject l u event
+  unfolding logIn earliest
+  scan-none {kind} is past = sym (of-kind ∙ rw (← is, none-of-kind _ kind _ past (kinds-declared (termsOf terms) log)))
+
+  -- at the start all records of the kind are left
+  pub scan-start : {kind : ℕ} {list : List ℕ} → kind ≡ kindOf (termsOf terms) event → Lists (termsOf terms) log kind list → Scanned Never list 0
+  unfolding logIn earlierOf
+  scan-start is has = of-kind ∙ rw (← is, ← has .records)
+
+  module _ (first : Time) (list : List ℕ) (i : ℕ) (sofar : Scanned first list i) where
     -- one record more
-    pub scan-step : {end : ℕ} {time inside next : Time} → Step (termsOf terms) log at end → time ≡ happens terms log k subject event (recordIn terms log at)
-        → inside ≡ fromEdge l (beforeEdge u time) → next ≡ earlierOf first inside → Scanned next end
+    pub scan-step : {at : ℕ} {time inside next : Time} → i < length list → at ≡ getD list i 0 → time ≡ happens terms log k subject event (recordIn terms log at)
+        → inside ≡ fromEdge l (beforeEdge u time) → next ≡ earlierOf first inside → Scanned next list (i + 1)
     unfolding earliest recordIn
-    scan-step here t i n = rw (here .records) at sofar ∙ rw (n, i, t) (sym (earlier-assoc _ _ _))
+    scan-step h p t e n = rw (list-step list i h) at sofar ∙ rw (add-one i, n, e, t, p) (sym (earlier-assoc _ _ _))
+
+    -- one record more, which does not correlate
+    pub scan-skip : {at : ℕ} → i < length list → at ≡ getD list i 0 → correlate (termsOf terms) (recordIn terms log subject) (recordIn terms log at) ≡ false → Scanned first list (i + 1)
+    scan-skip {at} h p other =
+        scan-step h p (happens-not terms log k subject at event refl (rw other (sym (and-false (eqb (recordIn terms log at .kind) (kindOf (termsOf terms) event))))) refl) (sym (never-inside l u)) (sym (earlier-never first))
 
     -- no record is left
-    pub scan-end : recordsIn valueWidth (termsOf terms) (drop at log) ≡ [] → first ≡ under firstWithin terms log k subject l u event
+    pub scan-end : length list ≤ i → first ≡ under firstWithin terms log k subject l u event
     unfolding earliest
-    scan-end none = sym (rw none at sofar ∙ earlier-never first)
+    scan-end past = sym (rw (drop-of-length-le list past) at sofar ∙ earlier-never first)

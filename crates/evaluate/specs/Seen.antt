@@ -10,7 +10,9 @@ use Rattle.model.specs.Log.{Record, Log}
 use Rattle.model.specs.Meaning.{StageTimes, cited, edgeOf, stageTime}
 use Rattle.model.specs.Records.{valueWidth, recordsIn}
 use Rattle.model.specs.Calls.{termsOf}
+use Rattle.grammar.specs.Places.{Placed}
 use Rattle.log.specs.Holds.{recordAt}
+use Rattle.log.specs.Listed.{Indexed}
 use Rattle.evaluate.specs.declared.KnownBound.{KnownBound}
 use Rattle.evaluate.specs.declared.KnownBound.the-variants.{Known, Unknown}
 
@@ -34,3 +36,7 @@ under rule terms log k subject = rule (cited k (stageTime (termsOf terms) (logIn
 unfoldable pub knownAs : Bound → Time → KnownBound
 knownAs bound (At g) = Known (edgeOf bound g) g
 knownAs bound Never = Unknown
+
+-- what evaluation is given: where the clauses of the terms start, and an index of the log
+abbrev pub Ready : List ℕ → ℕ → List ℕ → List ℕ → List ℕ → Type 0
+Ready terms kinds starts log index = Placed terms kinds starts × Indexed terms log kinds index

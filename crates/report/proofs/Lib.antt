@@ -2,6 +2,7 @@
 pub mod Entries
 pub mod RowSteps
 pub mod Sought
+pub mod Most
 pub mod Pages
 pub mod Parties
 pub mod Reports

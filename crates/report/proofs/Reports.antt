@@ -7,12 +7,12 @@
 use Prim.Native.Nat.{ℕ, _*_, _≤_, _<_}
 use native.Mathlib.Omega.{arith}
 use mathlib.Core.Path.{_≡_}
-use mathlib.Core.Bool.{false}
+use mathlib.Core.Bool.{Bool, true, false}
 use mathlib.Core.List.{List, _++_}
 use lib.Dec.{ltb}
 use lib.ListN.{length, take}
 use lib.Seq.{length-take-le}
-use borrow.Author.Tests.{ltb-false, lt-ltb, le-ltb}
+use borrow.Author.Tests.{ltb-false}
 use Rattle.model.specs.declared.Refusal.{Refusal}
 use Rattle.model.specs.declared.Refusal.the-variants.{PageTooShort}
 use Rattle.model.specs.declared.Checked.{Checked}
@@ -41,14 +41,14 @@ module _ (terms log : List ℕ) (used m : ℕ) (page : List ℕ) where
   report-refused {found} {x} is e = refused-outcome x (log-refused terms log used is e (pageChecks valueWidth (rowsOf valueWidth terms log used m) page)) page _
 
   module _ (kept : (more : List Check) → refusal (logChecks valueWidth terms log used ++ more) ≡ refusal more)
-      {count : ℕ} (counted : count ≡ length (schemasFrom terms (take used log) m 0)) where
+      {short : Bool} (measured : short ≡ ltb (length page) (18 * length (schemasFrom terms (take used log) m 0))) where
     -- a page that is too short for the rows
-    pub report-short : length page < 18 * count → outcome (reportedAnswer (reportedCase.Refused PageTooShort)) page ≡ report valueWidth terms log used m page
+    pub report-short : short ≡ true → outcome (reportedAnswer (reportedCase.Refused PageTooShort)) page ≡ report valueWidth terms log used m page
     unfolding reportedAnswer report onPage unlessRefused pageChecks pageTooShort rowLength refusal
-    report-short h = rw (kept, all-rows terms log used m, ← counted, lt-ltb (length page) (18 * count) h)
+    report-short h = rw (kept, all-rows terms log used m, ← measured, h)
 
     -- one that has room for them
-    pub report-written : 18 * count ≤ length page → {left : List ℕ} → left ≡ withRows page 0 (schemasFrom terms (take used log) m 0)
+    pub report-written : short ≡ false → {count : ℕ} {left : List ℕ} → (count ≡ length (schemasFrom terms (take used log) m 0)) × (left ≡ withRows page 0 (schemasFrom terms (take used log) m 0))
         → outcome (reportedAnswer (reportedCase.Count count)) left ≡ report valueWidth terms log used m page
     unfolding reportedAnswer report onPage unlessRefused pageChecks pageTooShort rowLength refusal withRows
-    report-written h e = rw (kept, all-rows terms log used m, ← counted, le-ltb (length page) (18 * count) h, e)
+    report-written h e = rw (kept, all-rows terms log used m, ← measured, h, e .0, e .1)

@@ -3,16 +3,18 @@ mod rows;
 
 use grammar::Reading;
 use grammar::read_layout;
+use log::INDEX_LENGTH;
 use log::check_log_under;
 use log::key_at;
+use log::read_index;
 use log::read_record;
 use log::stamp_at;
 use model::Checked;
 use model::Refusal;
 use model::Reported;
 use model::Standing;
-use rows::count_rows;
 use rows::entries_of;
+use rows::too_short;
 use rows::write_rows;
 use terms::subject_of;
 ghost use mathlib.Core.Path.{_≡_};
@@ -37,7 +39,7 @@ enum Place {
     Nowhere,
 }
 
-// Call 4: the report at a moment. The checks, then the count of all rows, then the page's length, then the rows.
+// Call 4: the report at a moment. The checks, then whether the page holds all rows, and only then the rows.
 pub fn report(terms: &[u8], log: &[u8], used: usize, moment: u32, page: &mut [u8]) -> Reported
     ensures { λ r. ⌜ outcome (reportedAnswer r) (now (page .exit)) ≡ report valueWidth (now (terms .entry)) (now (log .entry)) used moment (now (page .entry)) ⌝ }
 {
@@ -50,12 +52,12 @@ pub fn report(terms: &[u8], log: &[u8], used: usize, moment: u32, page: &mut [u8
     }
     let starts = &places[..clauses];
     let records = &log[..used];
-    let count = count_rows(terms, kinds, starts, records, moment);
-    if page.len() < ROW_LENGTH * count {
+    let mut index = [0u16; INDEX_LENGTH];
+    read_index(terms, kinds, records, &mut index);
+    if too_short(terms, kinds, starts, records, &index, moment, page) {
         return Reported::Refused(Refusal::PageTooShort);
     }
-    write_rows(terms, kinds, starts, records, moment, page);
-    Reported::Count(count)
+    Reported::Count(write_rows(terms, kinds, starts, records, &index, moment, page))
 }
 
 // Whether the record at a place is the subject that a standing asks for; the kind is compared first.
@@ -133,5 +135,16 @@ pub fn standing(
     let Place::At(subject) = find_subject(terms, kinds, starts, records, schema, key, moment) else {
         return Standing::Refused(Refusal::NoSubject);
     };
-    Standing::Shown(entries_of(terms, kinds, starts, records, subject, schema, moment))
+    let mut index = [0u16; INDEX_LENGTH];
+    read_index(terms, kinds, records, &mut index);
+    Standing::Shown(entries_of(
+        terms,
+        kinds,
+        starts,
+        records,
+        &index,
+        subject,
+        schema,
+        moment,
+    ))
 }

@@ -6,6 +6,7 @@ use fields::mask_of;
 use grammar::Reading;
 use log::VALUE_WIDTH;
 use log::key_at;
+use log::number_in;
 use log::read_record;
 use log::stamp_at;
 use log::value_at;
@@ -22,6 +23,8 @@ use times::stage_from;
 ghost use mathlib.Core.Path.{_≡_};
 ghost use mathlib.Core.Bool.{false};
 ghost use Prim.Native.Nat.{ℕ, _+_, _*_, _<_, _≤_};
+ghost use mathlib.Core.List.{List};
+ghost use lib.Dec.{ltb};
 ghost use lib.ListN.{length};
 ghost use Rattle.model.specs.declared.Row.{Row};
 ghost use Rattle.model.specs.declared.Stage.{Stage};
@@ -34,7 +37,8 @@ ghost use Rattle.model.specs.Rows.{rowOf, rowAt};
 ghost use Rattle.model.specs.Calls.{termsOf};
 ghost use Rattle.grammar.specs.Places.{Placed};
 ghost use Rattle.log.specs.Holds.{Stands};
-ghost use Rattle.evaluate.specs.Seen.{recordIn};
+ghost use Rattle.log.specs.Listed.{Numbered, Indexed};
+ghost use Rattle.evaluate.specs.Seen.{Ready, recordIn};
 ghost use Rattle.report.specs.Shown.{entriesIn, rowBy, recordRows, rowsFrom, schemasFrom, withRows};
 
 // What all rows of a subject under a schema have in common.
@@ -51,20 +55,23 @@ pub(crate) fn entries_of(
     kinds: usize,
     starts: &[usize],
     log: &[u8],
+    index: &[u16],
     subject: usize,
     schema: usize,
     moment: u32,
 ) -> Entries
-    requires { ⌜ Placed (now terms) kinds (now starts) × (3 * schema < length (now starts)) × Stands (termsOf (now terms)) (now log) subject ⌝ }
+    requires { ⌜ Ready (now terms) kinds (now starts) (now log) (now index) × (3 * schema < length (now starts)) × Stands (termsOf (now terms)) (now log) subject ⌝ }
     ensures { λ r. ⌜ r ≡ entriesIn (now (terms .entry)) (now (log .entry)) subject schema moment ⌝ }
 {
     let norm = norm_type(terms, kinds, starts, schema);
     let stamp = stamp_at(log, subject);
-    let create = 3 * schema;
+    let first = 3 * schema;
+    let create = Part::Occurrence;
+    let detach = Part::Both;
     let needed = consequent_parts(norm);
-    let c = clause_times(terms, kinds, starts, log, subject, create, Part::Occurrence);
-    let r = clause_times(terms, kinds, starts, log, subject, create + 1, Part::Both);
-    let u = clause_times(terms, kinds, starts, log, subject, create + 2, needed);
+    let c = clause_times(terms, kinds, starts, log, index, subject, first, create);
+    let r = clause_times(terms, kinds, starts, log, index, subject, first + 1, detach);
+    let u = clause_times(terms, kinds, starts, log, index, subject, first + 2, needed);
     Entries {
         created: before(moment, stage_from(Stage::Created, norm, stamp, c, r, u)),
         detached: before(moment, stage_from(Stage::Detached, norm, stamp, c, r, u)),
@@ -90,17 +97,18 @@ fn count_record(
     kinds: usize,
     starts: &[usize],
     log: &[u8],
+    index: &[u16],
     at: usize,
     schema: usize,
     moment: u32,
 ) -> usize
-    requires { ⌜ Placed (now terms) kinds (now starts) × (3 * schema < length (now starts)) × Stands (termsOf (now terms)) (now log) at ⌝ }
+    requires { ⌜ Ready (now terms) kinds (now starts) (now log) (now index) × (3 * schema < length (now starts)) × Stands (termsOf (now terms)) (now log) at ⌝ }
     ensures { λ r. ⌜ (r ≡ length (recordRows (now (terms .entry)) (now (log .entry)) schema moment at)) × (r ≤ 5) ⌝ }
 {
     if log[at] != subject_of(terms, kinds, starts, schema) {
         return 0;
     }
-    let entries = entries_of(terms, kinds, starts, log, at, schema, moment);
+    let entries = entries_of(terms, kinds, starts, log, index, at, schema, moment);
     let created = entries.created;
     let detached = entries.detached;
     let expired = entries.expired;
@@ -115,10 +123,11 @@ fn count_schema(
     kinds: usize,
     starts: &[usize],
     log: &[u8],
+    index: &[u16],
     schema: usize,
     moment: u32,
 ) -> usize
-    requires { ⌜ Placed (now terms) kinds (now starts) × (3 * schema < length (now starts)) × (length (now log) ≤ 32768) ⌝ }
+    requires { ⌜ Ready (now terms) kinds (now starts) (now log) (now index) × (3 * schema < length (now starts)) × (length (now log) ≤ 32768) ⌝ }
     ensures { λ r. ⌜ (r ≡ length (rowsFrom (now (terms .entry)) (now (log .entry)) schema moment 0)) × (r ≤ 32768) ⌝ }
 {
     let mut count: usize = 0;
@@ -127,30 +136,76 @@ fn count_schema(
         let Reading::To(end) = read_record(terms, kinds, log, at) else {
             return count;
         };
-        count += count_record(terms, kinds, starts, log, at, schema, moment);
+        count += count_record(terms, kinds, starts, log, index, at, schema, moment);
         at = end;
     }
     count
 }
 
 // How many rows a report has.
-pub(crate) fn count_rows(
+fn count_rows(
     terms: &[u8],
     kinds: usize,
     starts: &[usize],
     log: &[u8],
+    index: &[u16],
     moment: u32,
 ) -> usize
-    requires { ⌜ Placed (now terms) kinds (now starts) × (length (now log) ≤ 32768) ⌝ }
+    requires { ⌜ Ready (now terms) kinds (now starts) (now log) (now index) × (length (now log) ≤ 32768) ⌝ }
     ensures { λ r. ⌜ (r ≡ length (schemasFrom (now (terms .entry)) (now (log .entry)) moment 0)) × (r ≤ 16 * 32768) ⌝ }
 {
     let mut count: usize = 0;
     let mut schema: usize = 0;
     while 3 * schema < starts.len() {
-        count += count_schema(terms, kinds, starts, log, schema, moment);
+        count += count_schema(terms, kinds, starts, log, index, schema, moment);
         schema += 1;
     }
     count
+}
+
+// No more rows than this has a schema: five for each of its subjects.
+fn most_of(terms: &[u8], kinds: usize, starts: &[usize], index: &[u16], schema: usize) -> usize
+    requires { ⌜ Placed (now terms) kinds (now starts) × (3 * schema < length (now starts)) × Numbered kinds (now index) ⌝ }
+    ensures { λ r. ⌜ ((log : List ℕ) → Indexed (now (terms .entry)) log kinds (now (index .entry)) → (m : ℕ) → length (rowsFrom (now (terms .entry)) log schema m 0) ≤ r) × (r ≤ 327680) ⌝ }
+{
+    let kind = subject_of(terms, kinds, starts, schema) as usize;
+    if kinds <= kind {
+        return 0;
+    }
+    5 * (number_in(index, kind + 1) - number_in(index, kind))
+}
+
+// No more rows than this has a report.
+fn most_rows(terms: &[u8], kinds: usize, starts: &[usize], index: &[u16]) -> usize
+    requires { ⌜ Placed (now terms) kinds (now starts) × Numbered kinds (now index) ⌝ }
+    ensures { λ r. ⌜ ((log : List ℕ) → Indexed (now (terms .entry)) log kinds (now (index .entry)) → (m : ℕ) → length (schemasFrom (now (terms .entry)) log m 0) ≤ r) × (r ≤ 16 * 327680) ⌝ }
+{
+    let mut most: usize = 0;
+    let mut schema: usize = 0;
+    while 3 * schema < starts.len() {
+        most += most_of(terms, kinds, starts, index, schema);
+        schema += 1;
+    }
+    most
+}
+
+// Whether a page is too short for the rows of a report. They are counted only where it could be.
+pub(crate) fn too_short(
+    terms: &[u8],
+    kinds: usize,
+    starts: &[usize],
+    log: &[u8],
+    index: &[u16],
+    moment: u32,
+    page: &[u8],
+) -> bool
+    requires { ⌜ Ready (now terms) kinds (now starts) (now log) (now index) × (length (now log) ≤ 32768) ⌝ }
+    ensures { λ r. ⌜ r ≡ ltb (length (now (page .entry))) (18 * length (schemasFrom (now (terms .entry)) (now (log .entry)) moment 0)) ⌝ }
+{
+    if ROW_LENGTH * most_rows(terms, kinds, starts, index) <= page.len() {
+        return false;
+    }
+    page.len() < ROW_LENGTH * count_rows(terms, kinds, starts, log, index, moment)
 }
 
 // Whose rows they are: the schema, the key and the parties of the subject at a place.
@@ -226,19 +281,20 @@ fn write_record(
     kinds: usize,
     starts: &[usize],
     log: &[u8],
+    index: &[u16],
     at: usize,
     schema: usize,
     moment: u32,
     page: &mut [u8],
     to: usize,
 ) -> usize
-    requires { ⌜ Placed (now terms) kinds (now starts) × (3 * schema < length (now starts)) × Stands (termsOf (now terms)) (now log) at × (fieldWrong (fileOf (now terms)) ≡ false) × (to + 18 * length (recordRows (now terms) (now log) schema moment at) ≤ length (now page)) ⌝ }
+    requires { ⌜ Ready (now terms) kinds (now starts) (now log) (now index) × (3 * schema < length (now starts)) × Stands (termsOf (now terms)) (now log) at × (fieldWrong (fileOf (now terms)) ≡ false) × (to + 18 * length (recordRows (now terms) (now log) schema moment at) ≤ length (now page)) ⌝ }
     ensures { λ r. ⌜ (r ≡ to + 18 * length (recordRows (now (terms .entry)) (now (log .entry)) schema moment at)) × (now (page .exit) ≡ withRows (now (page .entry)) to (recordRows (now (terms .entry)) (now (log .entry)) schema moment at)) ⌝ }
 {
     if log[at] != subject_of(terms, kinds, starts, schema) {
         return to;
     }
-    let entries = entries_of(terms, kinds, starts, log, at, schema, moment);
+    let entries = entries_of(terms, kinds, starts, log, index, at, schema, moment);
     let created = entries.created;
     let detached = entries.detached;
     let expired = entries.expired;
@@ -258,12 +314,13 @@ fn write_schema(
     kinds: usize,
     starts: &[usize],
     log: &[u8],
+    index: &[u16],
     schema: usize,
     moment: u32,
     page: &mut [u8],
     from: usize,
 ) -> usize
-    requires { ⌜ Placed (now terms) kinds (now starts) × (3 * schema < length (now starts)) × (fieldWrong (fileOf (now terms)) ≡ false) × (from + 18 * length (rowsFrom (now terms) (now log) schema moment 0) ≤ length (now page)) ⌝ }
+    requires { ⌜ Ready (now terms) kinds (now starts) (now log) (now index) × (3 * schema < length (now starts)) × (fieldWrong (fileOf (now terms)) ≡ false) × (from + 18 * length (rowsFrom (now terms) (now log) schema moment 0) ≤ length (now page)) ⌝ }
     ensures { λ r. ⌜ (r ≡ from + 18 * length (rowsFrom (now (terms .entry)) (now (log .entry)) schema moment 0)) × (now (page .exit) ≡ withRows (now (page .entry)) from (rowsFrom (now (terms .entry)) (now (log .entry)) schema moment 0)) ⌝ }
 {
     let mut to = from;
@@ -272,28 +329,41 @@ fn write_schema(
         let Reading::To(end) = read_record(terms, kinds, log, at) else {
             return to;
         };
-        to = write_record(terms, kinds, starts, log, at, schema, moment, page, to);
+        to = write_record(
+            terms,
+            kinds,
+            starts,
+            log,
+            index,
+            at,
+            schema,
+            moment,
+            page,
+            to,
+        );
         at = end;
     }
     to
 }
 
-// Writes all rows, from the page's first byte.
+// Writes all rows, from the page's first byte. How many there are.
 pub(crate) fn write_rows(
     terms: &[u8],
     kinds: usize,
     starts: &[usize],
     log: &[u8],
+    index: &[u16],
     moment: u32,
     page: &mut [u8],
-)
-    requires { ⌜ Placed (now terms) kinds (now starts) × (fieldWrong (fileOf (now terms)) ≡ false) × (18 * length (schemasFrom (now terms) (now log) moment 0) ≤ length (now page)) ⌝ }
-    ensures { λ _. ⌜ now (page .exit) ≡ withRows (now (page .entry)) 0 (schemasFrom (now (terms .entry)) (now (log .entry)) moment 0) ⌝ }
+) -> usize
+    requires { ⌜ Ready (now terms) kinds (now starts) (now log) (now index) × (fieldWrong (fileOf (now terms)) ≡ false) × (18 * length (schemasFrom (now terms) (now log) moment 0) ≤ length (now page)) ⌝ }
+    ensures { λ r. ⌜ (r ≡ length (schemasFrom (now (terms .entry)) (now (log .entry)) moment 0)) × (now (page .exit) ≡ withRows (now (page .entry)) 0 (schemasFrom (now (terms .entry)) (now (log .entry)) moment 0)) ⌝ }
 {
     let mut to: usize = 0;
     let mut schema: usize = 0;
     while 3 * schema < starts.len() {
-        to = write_schema(terms, kinds, starts, log, schema, moment, page, to);
+        to = write_schema(terms, kinds, starts, log, index, schema, moment, page, to);
         schema += 1;
     }
+    to / ROW_LENGTH
 }

@@ -1,11 +1,12 @@
 -- `report` meets its contract: the checks of call 2, then the count, then the page's length, then the rows. Assumes nothing.
 use Prim.Native.Nat.{_*_, _≤_}
 use native.Mathlib.Omega.{arith}
-use mathlib.Core.Path.{_≡_, sym}
+use mathlib.Core.Path.{_≡_, sym, _∙_}
 use mathlib.Core.List.{List, _++_}
 use lib.ListN.{length, take}
 use lib.Seq.{length-take-le}
 use borrow.Author.Needs.{needs}
+use borrow.Author.Tests.{ltb-false}
 use Rattle.model.specs.Records.{valueWidth}
 use Rattle.model.specs.Calls.{Check, refusal, logChecks}
 use Rattle.model.proofs.RefusalLaws.{LogAccepted}
@@ -44,23 +45,26 @@ slice-aggregate-records c =
     let a = c .before .before .before .before .before .before .before .before .before .before .before .args in
     sym (length-take-le (a .used) (a .log .now) (used-inside (a .log .now) (a .used) (kept (c .before .before) .0 .used-fits)))
 
-count-rows-requires : tie.Need-count-rows-requires
-count-rows-requires c κs = let p = placed (c .before .before .before .before .before .before .before) in (p, used-few _ _ (kept (c .before .before) .0 .used-fits))
+read-index-requires : tie.Need-read-index-requires
+read-index-requires c κs = (placed (c .before .before .before .before .before .before .before .before) .0, used-few _ _ (kept (c .before .before .before) .0 .used-fits), search needs)
+
+too-short-requires : tie.Need-too-short-requires
+too-short-requires c κs = ((placed (c .before .before .before .before .before .before .before .before .before .before .before .before), c .before .before .before .read-index .ensures), used-few _ _ (kept (c .before .before .before .before .before .before .before) .0 .used-fits))
 
 returns-2 : tie.Need-returns-2
 returns-2 c =
-    let a = c .before .before .before .before .before .before .before .before .before .before .before .before .before .args in
-    report-short (a .terms .now) (a .log .now) (a .used) (a .moment) (a .page .now) (kept (c .before .before .before .before) .1) (c .before .count-rows .ensures .0) (c .if1 .taken)
+    let a = c .before .before .before .before .before .before .before .before .before .before .before .before .before .before .before .before .before .before .args in
+    report-short (a .terms .now) (a .log .now) (a .used) (a .moment) (a .page .now) (kept (c .before .before .before .before .before .before .before .before .before) .1) (c .before .too-short .ensures) (c .if1 .taken)
 
 write-rows-requires : tie.Need-write-rows-requires
 write-rows-requires c κs =
-    let p = placed (c .before .before .before .before .before .before .before .before .before .before) in
-    (p, kept (c .before .before .before .before .before) .0 .terms-ok .fields, omega (arith, c .before .if1 .left, c .before .before .count-rows .ensures .0))
+    let short = c .before .before .before .too-short .ensures in
+    ((placed (c .before .before .before .before .before .before .before .before .before .before .before .before .before .before .before .before), c .before .before .before .before .before .before .before .read-index .ensures), kept (c .before .before .before .before .before .before .before .before .before .before .before) .0 .terms-ok .fields, ltb-false _ _ (sym short ∙ c .before .before .if1 .left))
 
 returns-3 : tie.Need-returns-3
 returns-3 c =
-    let a = c .before .before .before .before .before .before .before .before .before .before .before .before .before .before .before .before .before .args in
-    report-written (a .terms .now) (a .log .now) (a .used) (a .moment) (a .page .now) (kept (c .before .before .before .before .before .before .before .before) .1) (c .before .before .before .before .before .count-rows .ensures .0) (c .before .before .before .before .if1 .left) (c .before .before .write-rows .ensures)
+    let a = c .before .before .before .before .before .before .before .before .before .before .before .before .before .before .before .before .before .before .before .before .before .before .before .args in
+    report-written (a .terms .now) (a .log .now) (a .used) (a .moment) (a .page .now) (kept (c .before .before .before .before .before .before .before .before .before .before .before .before .before .before) .1) (c .before .before .before .before .before .before .too-short .ensures) (c .before .before .before .before .before .if1 .left) (c .before .before .write-rows .ensures)
 
 pub report-spec : {M : Type 1} → statement M
 report-spec =
@@ -75,9 +79,13 @@ report-spec =
     (λ c. room (c .before .before .before .before .before))
     (λ c. sym (length-take-le _ _ (room (c .before .before .before .before .before .before))))
     slice-aggregate-records
-    count-rows-requires
+    (λ c. search needs)
+    read-index-requires
+    (λ c. search needs)
+    too-short-requires
     (λ c. search needs)
     returns-2
+    (λ c. search needs)
     write-rows-requires
     (λ c. search needs)
     returns-3)

@@ -14,6 +14,7 @@ use Rattle.terms.proofs.Faults.{layout-few, layout-placed, schemas-count}
 use Rattle.log.proofs.Checks.{used-inside, log-kept}
 use Rattle.report.specs.declared.Place.the-variants.{At}
 use Rattle.report.specs.Shown.{FoundAt}
+use Rattle.report.proofs.Reports.{used-few}
 use Rattle.report.proofs.Sought.{standing-refused, standing-past, standing-nobody, standing-shown}
 use Rattle.report.proofs.standing.Statement.{statement}
 use Rattle.report.proofs.standing.Tie as tie
@@ -74,18 +75,23 @@ found : (c : tie.After-known-told2) → let a = c .before .before .before .befor
     FoundAt (a .terms .now) (take (a .used) (a .log .now)) (a .schema) (a .key) (a .moment) (At (c .before .subject .given .0 .0))
 found c = rw (c .before .subject .given .1) at (c .before .before .before .find-subject .ensures)
 
+read-index-requires : tie.Need-read-index-requires
+read-index-requires c κs =
+    let other = c .before .before .before .before .before .before .before in
+    (placed (other .before .before .before .before .before) .0, used-few _ _ (kept (other .before) .0 .used-fits), search needs)
+
 entries-of-requires : tie.Need-entries-of-requires
 entries-of-requires c κs =
-    let other = c .before .before .before .before .before .before in
+    let other = c .before .before .before .before .before .before .before .before .before .before in
     let layout = other .before .before .before .before .before in
     let places = placed layout in
-    (places, omega (arith, places .1, there other, schemas-count (layout .before .before .before .args .terms .now)), found c .1)
+    ((places, c .before .before .read-index .ensures), omega (arith, places .1, there other, schemas-count (layout .before .before .before .args .terms .now)), found (c .before .before .before .before) .1)
 
 returns-4 : tie.Need-returns-4
 returns-4 c =
-    let other = c .before .before .before .before .before .before .before in
+    let other = c .before .before .before .before .before .before .before .before .before .before .before in
     let a = other .before .before .before .before .before .before .before .before .args in
-    standing-shown (a .terms .now) (a .log .now) (a .used) (a .schema) (a .key) (a .moment) (kept (other .before) .1) (there other) _ (found (c .before)) (c .entries-of .ensures)
+    standing-shown (a .terms .now) (a .log .now) (a .used) (a .schema) (a .key) (a .moment) (kept (other .before) .1) (there other) _ (found (c .before .before .before .before .before)) (c .entries-of .ensures)
 
 pub standing-spec : {M : Type 1} → statement M
 standing-spec =
@@ -105,5 +111,8 @@ standing-spec =
     (λ c. search needs)
     (λ c. search needs)
     returns-3
+    (λ c. search needs)
+    read-index-requires
+    (λ c. search needs)
     entries-of-requires
     returns-4)

@@ -6,10 +6,10 @@ use lib.ListN.{length}
 use borrow.Author.Needs.{needs}
 use Rattle.model.specs.Grammar.{exprLimit}
 use Rattle.model.specs.Calls.{termsOf}
-use Rattle.grammar.specs.Places.{Placed}
 use Rattle.log.specs.Holds.{Stands}
 use Rattle.times.specs.declared.Part.{Part}
 use Rattle.times.specs.Parts.{partOf}
+use Rattle.evaluate.specs.Seen.{Ready}
 use Rattle.evaluate.proofs.failure.Reads as failure
 use Rattle.evaluate.proofs.occurrence.Reads as occurrence
 use Rattle.evaluate.proofs.clause_times.Reads as clause-times
@@ -21,12 +21,12 @@ abbrev claims : ℕ → lts.Claims
 claims t = (occurrence-below t, occurrence.Post, failure-below t, failure.Post)
 
 -- an expression of the clause may be asked for, where the part that is needed is told: it weighs less
-asks : (t : ℕ) (c : lts.After-shared-slice-known4 (claims t) (clause-times-entry t) clause-times.Post) (p : Part) → let a = c .before .before .before .before .args in a .part ≡ p
+asks : (t : ℕ) (c : lts.After-shared-slice-known5 (claims t) (clause-times-entry t) clause-times.Post) (p : Part) → let a = c .before .before .before .before .before .args in a .part ≡ p
     → a .rank * 512 + 257 < weight p (a .rank) → (a .rank * 512 + 31 * 8 + 9 < t)
-    × (Placed (a .terms .now) (a .kinds) (a .starts .now) × (a .rank ≤ length (a .starts .now)) × Stands (termsOf (a .terms .now)) (a .log .now) (a .subject) × (31 ≤ exprLimit))
+    × (Ready (a .terms .now) (a .kinds) (a .starts .now) (a .log .now) (a .index .now) × (a .rank ≤ length (a .starts .now)) × Stands (termsOf (a .terms .now)) (a .log .now) (a .subject) × (31 ≤ exprLimit))
 unfolding exprLimit
 asks t c p e h =
-    let s = c .before .before .before .before in
+    let s = c .before .before .before .before .before in
     let same : weight p (s .args .rank) ≡ t = rw (← e) (s .pre .0) in
     (omega (arith, same), (s .pre .1 .0, omega arith, s .pre .1 .2, omega arith))
 

@@ -1,5 +1,6 @@
 -- `leaf_failure` meets its contract, its calls within the cycle being smaller. Assumes nothing.
 use Prim.Native.Nat.{ℕ}
+use native.Mathlib.Omega.{arith}
 use borrow.Author.Needs.{needs}
 use Rattle.model.proofs.Time.later_of.Reads as later-of
 use Rattle.times.proofs.reached.Reads as reached
@@ -29,6 +30,16 @@ missed t c =
     (some .before .before .first-within .ensures) (some .enum-told3 .given .1) (c .before .before .before .before .before .before .before .before .known-bound2 .ensures) (c .before .before .before .before .before .before .from .given .1)
     (c .before .before .before .before .first-within2 .ensures) (c .before .before .enum-told7 .given .1) (c .before .later-of2 .ensures) (c .later-of3 .ensures)
 
+-- something is in the window
+met : (t : ℕ) → lts.Need-returns-5 (claims t) (leaf-failure-entry t) leaf-failure.Post
+met t c =
+    let window = c .before .before in
+    let some = window .before .before .before .before .before in
+    let till = some .before .before .before .before .before .before .before .before in
+    fails-met _ _ _ _ _ (till .before .before .known-bound .ensures) (till .to .given .1) (some .before .before .before .before .before .before .reached .ensures) (some .before .before .before .before .r .given .1)
+    (some .before .before .first-within .ensures) (some .enum-told3 .given .1) (window .before .before .before .before .known-bound2 .ensures) (window .before .before .from .given .1)
+    (window .first-within2 .ensures) (c .enum-told6 .given .1)
+
 pub leaf-failure-closed : {M : Type 1} (t : ℕ) → lts.Closed (claims t) (leaf-failure-entry t) leaf-failure.Post M
 leaf-failure-closed t = lts.spec (claims t) (leaf-failure-entry t) leaf-failure.Post
     (λ c κs. search needs)
@@ -48,10 +59,10 @@ leaf-failure-closed t = lts.spec (claims t) (leaf-failure-entry t) leaf-failure.
     (λ c. search needs)
     (λ c. search needs)
     (λ c. search (fails-no-lower, needs))
-    (λ c κs. search needs)
+    (λ c κs. let start = c .before .before .before .before .before .before .before .before .before .before .before .before .before .before .before .before .before .before .before in (omega arith, (start .pre .1 .0, start .pre .1 .1, start .pre .1 .2)))
     (λ c. search needs)
     (λ c. search needs)
     (λ c κs. search needs)
     (λ c κs. search needs)
-    (λ c. search (fails-met, needs))
+    (met t)
     (missed t)

@@ -63,28 +63,28 @@ consequent-below Violated norm j = omega (arith, weight-most (consequentPart Vio
 
 create-asks : (t : ℕ) → lts.Need-clause-times-requires (claims t) (stage-time-entry t) stage-time.Post
 create-asks t c κs =
-    let a = c .before .before .before .before .before .before in
+    let a = c .before .before .before .before .before .before .before in
     (omega (arith, create-below (a .args .stage) (a .args .schema)), (a .pre .1 .0, omega arith, a .pre .1 .2))
 
 detach-asks : (t : ℕ) → lts.Need-clause-times-requires-2 (claims t) (stage-time-entry t) stage-time.Post
 detach-asks t c κs =
-    let a = c .before .before .before .before .before .before .before in
+    let a = c .before .before .before .before .before .before .before .before in
     (rw (c .before .before .detach-part .ensures) (omega (arith, detach-below (a .args .stage) (a .args .schema))), (a .pre .1 .0, omega arith, a .pre .1 .2))
 
 consequent-asks : (t : ℕ) → lts.Need-clause-times-requires-3 (claims t) (stage-time-entry t) stage-time.Post
 consequent-asks t c κs =
-    let a = c .before .before .before .before .before .before .before .before in
+    let a = c .before .before .before .before .before .before .before .before .before in
     let below = consequent-below (a .args .stage) (c .before .before .before .before .norm-type .result) (a .args .schema) in
     (rw (c .before .before .consequent-part .ensures) (omega (arith, below)), (a .pre .1 .0, omega arith, a .pre .1 .2))
 
 stamp-asks : (t : ℕ) → lts.Need-stamp-at-requires (claims t) (stage-time-entry t) stage-time.Post
-stamp-asks t c κs = let a = c .before .before .before .before .before .before .before .before .before in stands-stamped _ (a .args .log .now) (a .args .subject) (a .pre .1 .2)
+stamp-asks t c κs = let a = c .before .before .before .before .before .before .before .before .before .before in stands-stamped _ (a .args .log .now) (a .args .subject) (a .pre .1 .2)
 
 returns : (t : ℕ) → lts.Need-returns (claims t) (stage-time-entry t) stage-time.Post
 returns t c =
     let parts = c .before .before .before .before .before in
-    let a = parts .before .before .before .before .before .before in
-    stage-here (a .args .terms .now) (a .args .log .now) (a .args .starts .now) (a .args .subject) (a .args .schema) (a .pre .1 .0 .2) (omega arith) (a .args .stage)
+    let a = parts .before .before .before .before .before .before .before in
+    stage-here (a .args .terms .now) (a .args .log .now) (a .args .starts .now) (a .args .subject) (a .args .schema) (a .pre .1 .0 .0 .2) (omega arith) (a .args .stage)
     (c .stage-from .ensures) (parts .before .before .norm-type .ensures) (c .before .stamp-at .ensures _) (parts .before .detach-part .ensures) (parts .consequent-part .ensures)
     (c .before .before .before .before .clause-times .ensures) (c .before .before .before .clause-times2 .ensures) (c .before .before .clause-times3 .ensures)
 

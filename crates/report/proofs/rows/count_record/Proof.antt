@@ -36,14 +36,14 @@ counted terms log schema m at is e p q r s t =
 returns : tie.Need-returns
 unfolding byteAt
 returns c =
-    let a = c .before .before .before .before .before .before .args in
+    let a = c .before .before .before .before .before .before .before .args in
     (sym (ap length (record-other (a .terms .now) (a .log .now) (a .schema) (a .moment) (a .at) (λ e. c .if1 .taken (e ∙ sym (c .before .subject-of .ensures))))), omega arith)
 
 returns-2 : tie.Need-returns-2
 unfolding byteAt
 returns-2 c =
     let e = c .before .before .before .before .before in
-    let a = e .before .before .before .before .before .before .before .args in
+    let a = e .before .before .before .before .before .before .before .before .args in
     let all = counted (a .terms .now) (a .log .now) (a .schema) (a .moment) (a .at) (e .before .if1 .left ∙ e .before .before .subject-of .ensures) (e .entries-of .ensures)
     (c .before .before .before .before .shown .ensures .0) (c .before .before .before .shown2 .ensures .0) (c .before .before .shown3 .ensures .0)
     (c .before .shown4 .ensures .0) (c .shown5 .ensures .0) in
@@ -53,7 +53,7 @@ pub count-record-spec : {M : Type 1} → statement M
 count-record-spec =
     tie.close
     (tie.spec
-    (λ c. let start = c .before .before .before .before in stands-inside _ (start .args .log .now) (start .args .at) (start .pre .2))
+    (λ c. let start = c .before .before .before .before .before in stands-inside _ (start .args .log .now) (start .args .at) (start .pre .2))
     (λ c κs. search needs)
     returns
     (λ c κs. search needs)

@@ -23,16 +23,16 @@ use Rattle.report.proofs.rows.write_record.Tie as tie
 returns : tie.Need-returns
 unfolding byteAt
 returns c =
-    let a = c .before .before .before .before .before .before .before .args in
+    let a = c .before .before .before .before .before .before .before .before .args in
     rw (record-other (a .terms .now) (a .log .now) (a .schema) (a .moment) (a .at) (λ e. c .if1 .taken (e ∙ sym (c .before .subject-of .ensures)))) (omega arith, no-rows (a .page .now) (a .to))
 
 -- the record is a subject
-is : (c : tie.After-entries-of) → let a = c .before .before .before .before .before .before .before .before .args in byteAt (a .log .now) (a .at) ≡ schemaAt (termsOf (a .terms .now)) (a .schema) .subject
+is : (c : tie.After-entries-of) → let a = c .before .before .before .before .before .before .before .before .before .args in byteAt (a .log .now) (a .at) ≡ schemaAt (termsOf (a .terms .now)) (a .schema) .subject
 unfolding byteAt
 is c = c .before .if1 .left ∙ c .before .before .subject-of .ensures
 
 agreement-of-requires : tie.Need-agreement-of-requires
-agreement-of-requires c κs = let p = c .before .before .before .before .before .before .before .before .pre in (p .0, p .1, p .2, p .3, kind-is _ _ _ (is c))
+agreement-of-requires c κs = let p = c .before .before .before .before .before .before .before .before .before .pre in (p .0 .0, p .1, p .2, p .3, kind-is _ _ _ (is c))
 
 -- the rows of an entry
 abbrev rows : tie.After-agreement-of → Stage → Time → List Row
@@ -53,20 +53,20 @@ behind c = rows c Detached (c .before .entries-of .result .detached) ++ behind-2
 
 -- which rows are left for a page and a place
 abbrev LeftFor : tie.After-agreement-of → List ℕ → ℕ → List Row → Type 0
-LeftFor c = let a = c .before .before .before .before .before .before .before .before .before .args in Left (a .page .now) (a .to) (recordRows (a .terms .now) (a .log .now) (a .schema) (a .moment) (a .at))
+LeftFor c = let a = c .before .before .before .before .before .before .before .before .before .before .args in Left (a .page .now) (a .to) (recordRows (a .terms .now) (a .log .now) (a .schema) (a .moment) (a .at))
 
 -- all of them
-all : (c : tie.After-agreement-of) → let a = c .before .before .before .before .before .before .before .before .before .args in
+all : (c : tie.After-agreement-of) → let a = c .before .before .before .before .before .before .before .before .before .before .args in
     recordRows (a .terms .now) (a .log .now) (a .schema) (a .moment) (a .at) ≡ rows c Created (c .before .entries-of .result .created) ++ behind c
 all c =
-    let a = c .before .before .before .before .before .before .before .before .before .args in
+    let a = c .before .before .before .before .before .before .before .before .before .before .args in
     let whose = row-whose (a .terms .now) (a .log .now) (a .at) (a .schema) (c .agreement-of .result) (c .agreement-of .ensures) in
     record-shown (a .terms .now) (a .log .now) (a .schema) (a .moment) (a .at) (is (c .before)) (c .before .entries-of .ensures)
     ∙ rw (whose Created, whose Detached, whose Expired, whose Discharged, whose Violated)
 
 -- those that are left before and behind each call
-left : (c : tie.After-agreement-of) → let a = c .before .before .before .before .before .before .before .before .before .args in LeftFor c (a .page .now) (a .to) (recordRows (a .terms .now) (a .log .now) (a .schema) (a .moment) (a .at))
-left c = left-all _ _ _ (c .before .before .before .before .before .before .before .before .before .pre .4)
+left : (c : tie.After-agreement-of) → let a = c .before .before .before .before .before .before .before .before .before .before .args in LeftFor c (a .page .now) (a .to) (recordRows (a .terms .now) (a .log .now) (a .schema) (a .moment) (a .at))
+left c = left-all _ _ _ (c .before .before .before .before .before .before .before .before .before .before .pre .4)
 
 left-2 : (c : tie.After-write-entry) → LeftFor (c .before .before) (c .write-entry .last .0) (c .write-entry .result) (behind (c .before .before))
 left-2 c = left-next (left (c .before .before)) _ _ (all (c .before .before)) (c .write-entry .ensures .0) (c .write-entry .ensures .1)
@@ -89,7 +89,7 @@ pub write-record-spec : {M : Type 1} → statement M
 write-record-spec =
     tie.close
     (tie.spec
-    (λ c. let start = c .before .before .before .before .before in stands-inside _ (start .args .log .now) (start .args .at) (start .pre .2))
+    (λ c. let start = c .before .before .before .before .before .before in stands-inside _ (start .args .log .now) (start .args .at) (start .pre .2))
     (λ c κs. search needs)
     returns
     (λ c κs. search needs)
