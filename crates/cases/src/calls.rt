@@ -9,8 +9,8 @@ use crate::show::show_reported;
 use crate::show::show_standing;
 use crate::show::show_struck;
 use crate::strike::strike;
-use crate::text::byte_or_zero;
 use append::append;
+use grammar::byte_at;
 use log::check_log;
 use report::report;
 use report::standing;
@@ -25,7 +25,7 @@ pub(crate) const LOG_LENGTH: usize = 40000;
 fn copy_from(from: &[u8], to: &mut [u8]) {
     let mut i: usize = 0;
     while i < to.len() {
-        to[i] = byte_or_zero(from, i);
+        to[i] = byte_at(from, i);
         i += 1;
     }
 }
@@ -45,7 +45,7 @@ fn report_on(terms: &[u8], log: &[u8], used: usize, moment: u32, page: &mut [u8]
     let Struck::From(since) = struck else {
         return;
     };
-    let left = strike(&mut page[..end], since as u64);
+    let left = strike(&mut page[..end], since);
     show_struck(since as u64, &page[..left]);
 }
 

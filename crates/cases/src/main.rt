@@ -11,12 +11,12 @@ use ask::read_call;
 use ask::read_used;
 use calls::LOG_LENGTH;
 use calls::run_call;
+use console::say;
+use grammar::byte_at;
 use libc::STDIN_FILENO;
-use show::say;
 use show::show_bad;
 use text::NO_BYTE;
 use text::Number;
-use text::byte_or_zero;
 use text::ends_word;
 use text::pair;
 use text::past;
@@ -127,7 +127,7 @@ fn copy(buffer: &mut [u8], at: usize, size: usize, step: &[u8])
 {
     let mut i: usize = 0;
     while i < size {
-        buffer[at + i] = std::num::wrapping_add_u8(buffer[at + i - size], byte_or_zero(step, i));
+        buffer[at + i] = std::num::wrapping_add_u8(buffer[at + i - size], byte_at(step, i));
         i += 1;
     }
 }

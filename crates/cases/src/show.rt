@@ -1,41 +1,28 @@
 // Prints what the calls answer.
-use crate::strike::TIME_AT;
-use crate::text::byte_or_zero;
-use crate::text::number_at;
-use crate::text::wide;
+use console::say;
+use console::say_next;
+use console::say_refusal;
+use console::say_rows;
+use grammar::byte_at;
 use libc::STDOUT_FILENO;
 use model::Appended;
 use model::Checked;
 use model::Entries;
 use model::Refusal;
 use model::Reported;
-use model::Stage;
-use model::StageForm;
 use model::Standing;
 use model::Time;
 use report::ROW_LENGTH;
-ghost use Prim.Native.Nat.{_+_, _<_, _≤_};
+ghost use Prim.Native.Nat.{_≤_};
 ghost use lib.ListN.{length};
 
 // What stands in each byte of a page that no call has written.
 pub(crate) const UNWRITTEN: u8 = 255;
 
-// Prints bytes as they are.
-pub(crate) fn say(words: &[u8]) {
-    io::write_all(STDOUT_FILENO, words);
-}
-
-// Prints a number, with a space before it.
-fn say_number(n: u64) {
-    say(b" ");
-    io::print_decimal(STDOUT_FILENO, n);
-}
-
 // Prints a refusal.
 fn show_refusal(refusal: Refusal) {
-    say(b": refused");
-    say_number(wide(refusal.number()));
-    say(b"\n");
+    say(b": ");
+    say_refusal(refusal);
 }
 
 // Says that the text is not written as its first lines say.
@@ -53,61 +40,6 @@ pub(crate) fn show_checked(checked: Checked) {
             show_refusal(refusal);
         }
     }
-}
-
-// Prints the stage that the first byte of a row names.
-fn show_stage(form: u8) {
-    let StageForm::Is(stage) = Stage::of_form(form) else {
-        say(b"  no-stage");
-        return;
-    };
-    match stage {
-        Stage::Created => {
-            say(b"  created");
-        }
-        Stage::Detached => {
-            say(b"  detached");
-        }
-        Stage::Expired => {
-            say(b"  expired");
-        }
-        Stage::Discharged => {
-            say(b"  discharged");
-        }
-        Stage::Violated => {
-            say(b"  violated");
-        }
-    }
-}
-
-// Prints the row at a place of a page.
-fn show_row(page: &[u8], at: usize)
-    requires { ⌜ at + 18 ≤ length (now page) ⌝ }
-{
-    show_stage(page[at]);
-    say_number(wide(page[at + 1]));
-    say_number(number_at(page, at + 2));
-    say_number(number_at(page, at + 6));
-    say_number(number_at(page, at + 10));
-    say_number(number_at(page, at + TIME_AT));
-    say(b"\n");
-}
-
-// Prints so many rows, as far as the page has room for them. The place behind them.
-fn show_rows(page: &[u8], count: usize) -> usize
-    ensures { λ r. ⌜ r ≤ length (now (page .entry)) ⌝ }
-{
-    let mut at: usize = 0;
-    let mut left = count;
-    while 0 < left {
-        if page.len() - at < ROW_LENGTH {
-            return at;
-        }
-        show_row(page, at);
-        at += ROW_LENGTH;
-        left -= 1;
-    }
-    at
 }
 
 // Whether a byte at a place or behind it has been written.
@@ -140,9 +72,9 @@ pub(crate) fn show_reported(reported: Reported, page: &[u8]) -> usize
     match reported {
         Reported::Count(count) => {
             say(b":");
-            say_number(count as u64);
+            say_next(count as u64);
             say(b" rows\n");
-            let end = show_rows(page, count);
+            let end = say_rows(b"  ", page, count);
             show_page(page, end);
             end
         }
@@ -157,11 +89,11 @@ pub(crate) fn show_reported(reported: Reported, page: &[u8]) -> usize
 // Prints the rows that are left of a report where those timed at a moment or later are struck.
 pub(crate) fn show_struck(since: u64, rows: &[u8]) {
     say(b"  struck from");
-    say_number(since);
+    say_next(since);
     say(b" on:");
-    say_number((rows.len() / ROW_LENGTH) as u64);
+    say_next((rows.len() / ROW_LENGTH) as u64);
     say(b" rows\n");
-    show_rows(rows, rows.len() / ROW_LENGTH);
+    say_rows(b"  ", rows, rows.len() / ROW_LENGTH);
 }
 
 // Prints the bytes of a log buffer from a place up to another, in hexadecimal.
@@ -169,7 +101,7 @@ fn show_bytes(log: &[u8], from: usize, to: usize) {
     say(b"  put ");
     let mut at = from;
     while at < to {
-        io::print_hex(STDOUT_FILENO, wide(byte_or_zero(log, at)), 2);
+        io::print_hex(STDOUT_FILENO, byte_at(log, at) as u64, 2);
         at += 1;
     }
     say(b"\n");
@@ -182,7 +114,7 @@ fn changed_at(before: &[u8], log: &[u8], at: usize, from: usize, to: usize) -> b
             return false;
         }
     }
-    byte_or_zero(before, at) != byte_or_zero(log, at)
+    byte_at(before, at) != byte_at(log, at)
 }
 
 // Whether some byte of the buffer has changed, other than those from a place up to another.
@@ -210,7 +142,7 @@ pub(crate) fn show_appended(appended: Appended, used: usize, before: &[u8], log:
     match appended {
         Appended::Length(length) => {
             say(b": length");
-            say_number(length as u64);
+            say_next(length as u64);
             say(b"\n");
             show_bytes(log, used, length);
             show_log(before, log, used, length);
@@ -228,7 +160,7 @@ pub(crate) fn show_appended(appended: Appended, used: usize, before: &[u8], log:
 fn show_entry(entry: Time) {
     match entry {
         Time::At(minute) => {
-            say_number(minute as u64);
+            say_next(minute as u64);
         }
         Time::Never => {
             say(b" not-yet");

@@ -1,11 +1,11 @@
 // Strikes rows from the bytes of a report, by the time in their last four bytes.
-use crate::text::number_at;
+use grammar::u32_at;
 use report::ROW_LENGTH;
 ghost use Prim.Native.Nat.{_+_, _≤_};
 ghost use lib.ListN.{length};
 
 // Where a row has its time.
-pub(crate) const TIME_AT: usize = 14;
+const TIME_AT: usize = 14;
 
 // Moves a row to a place before it.
 fn move_row(rows: &mut [u8], at: usize, to: usize)
@@ -19,11 +19,11 @@ fn move_row(rows: &mut [u8], at: usize, to: usize)
 }
 
 // Keeps a row that is timed before a moment, behind the rows that are kept already. The place behind them.
-fn keep_row(rows: &mut [u8], at: usize, to: usize, since: u64) -> usize
+fn keep_row(rows: &mut [u8], at: usize, to: usize, since: u32) -> usize
     requires { ⌜ (to ≤ at) × (at + 18 ≤ length (now rows)) ⌝ }
     ensures { λ r. ⌜ r ≤ to + 18 ⌝ }
 {
-    if since <= number_at(rows, at + TIME_AT) {
+    if since <= u32_at(rows, at + TIME_AT) {
         return to;
     }
     move_row(rows, at, to);
@@ -31,7 +31,7 @@ fn keep_row(rows: &mut [u8], at: usize, to: usize, since: u64) -> usize
 }
 
 // Strikes the rows timed at a moment or later and closes the gaps. How many bytes are left.
-pub(crate) fn strike(rows: &mut [u8], since: u64) -> usize
+pub(crate) fn strike(rows: &mut [u8], since: u32) -> usize
     ensures { λ r. ⌜ r ≤ length (now (rows .exit)) ⌝ }
 {
     let mut at: usize = 0;

@@ -1,5 +1,5 @@
-// Bytes and numbers of a slice; words, digits and numbers of a text.
-ghost use Prim.Native.Nat.{_+_, _<_, _≤_};
+// Words, digits and numbers of a text.
+ghost use Prim.Native.Nat.{_≤_};
 ghost use lib.ListN.{length};
 
 // What stands for a character that is no digit, and for two that are no byte.
@@ -14,30 +14,6 @@ const NUMBER_LIMIT: usize = 1844674407370955160;
 pub(crate) struct Number {
     pub at: usize,
     pub value: usize,
-}
-
-// A byte of a slice; past its end 0.
-pub(crate) fn byte_or_zero(bytes: &[u8], i: usize) -> u8 {
-    if i < bytes.len() {
-        return bytes[i];
-    }
-    0
-}
-
-// A byte as a number.
-pub(crate) fn wide(b: u8) -> u64
-    ensures { λ r. ⌜ r < 256 ⌝ }
-{
-    b as u64
-}
-
-// The number in four bytes, the low one first.
-pub(crate) fn number_at(bytes: &[u8], at: usize) -> u64
-    requires { ⌜ at + 4 ≤ length (now bytes) ⌝ }
-{
-    let low = wide(bytes[at]) + 256 * wide(bytes[at + 1]);
-    let high = wide(bytes[at + 2]) + 256 * wide(bytes[at + 3]);
-    low + 65536 * high
 }
 
 // Spaces and line ends.

@@ -17,7 +17,6 @@ report-on-spec =
     (λ c. search needs)
     (λ c. search needs)
     (λ c. simp length-take (omega arith))
-    (λ c. search needs)
     (λ c κs. search needs)
     (λ c. search needs)
     (λ c. simp length-append (omega arith))
