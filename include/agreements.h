@@ -15,14 +15,17 @@
  *   pointer, also under valgrind, and does as an empty array does. Null with another length is not allowed.
  * - Nothing is kept from one call to the next: the archive has no writable data, and needs memcpy and memset only. So several threads may
  *   call at once, each with its own memory to be written. Terms, and a log that is only read, may be lent to several at once.
- * - No proof bounds the stack. By trials, the longest chain of citations would take 350 KB of it; give a thread that calls 1 MB.
+ * - No proof bounds the stack. By trials, the longest chain of citations would take 430 KB of it; give a thread that calls 1 MB.
  *
  * Time
+ * A report takes up to four times as long for a log twice as long (docs/SPEED.md). On a page with room for five rows for each subject under each
+ * schema it takes half as long as on a shorter one, where the rows are counted before they are written.
+ *
  * A stage that a clause cites is worked out anew for each citation and each record that matches, and so is each stage that this one cites
  * in turn. So the cost multiplies along a chain of citations, and a report under accepted terms can take very long. For a log of one record
- * and a chain of schemas, each clause a leaf that cites the stage before it in its event and in both bounds, four schemas took 0.05 s, five
- * took 2.5 s, and six took two minutes. A service that takes terms from strangers bounds this itself, by the length of such chains or by a
- * time after which it gives up. The other calls do not work out stages.
+ * and a chain of authorizations, each clause a leaf that cites the stage before it in its event and in both bounds, four schemas took 0.15 s
+ * and five took 8 s; six would take minutes. A service that takes terms from strangers bounds this itself, by the length of such chains or by
+ * a time after which it gives up. The other calls do not work out stages.
  */
 #ifndef AGREEMENTS_H
 #define AGREEMENTS_H
