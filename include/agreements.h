@@ -18,8 +18,9 @@
  * - No proof bounds the stack. By trials, the longest chain of citations would take 430 KB of it; give a thread that calls 1 MB.
  *
  * Time
- * A report takes up to four times as long for a log twice as long (docs/SPEED.md). On a page with room for five rows for each subject under each
- * schema it takes half as long as on a shorter one, where the rows are counted before they are written.
+ * Under terms that cite no stage a report takes up to about four times as long for a log twice as long (docs/SPEED.md). On a page with room
+ * for five rows for each subject under each schema it takes about half as long as on a shorter one that holds the rows, since there they are
+ * counted before they are written.
  *
  * A stage that a clause cites is worked out anew for each citation and each record that matches, and so is each stage that this one cites
  * in turn. So the cost multiplies along a chain of citations, and a report under accepted terms can take very long. For a log of one record

@@ -18,7 +18,7 @@ use std::sync::atomic::{AtomicU32, Ordering};
 use std::time::Instant;
 use tally::{Tally, APPEND, CALLS, CHECK_LOG, CHECK_TERMS, LISTING, REPORT, STANDING};
 
-/// From so many cases on, each refusal and both halves of demand 3 have to come up.
+/// From so many cases on, each refusal, both halves of demand 3 and each kind of listing have to come up.
 const ENOUGH: u64 = 20_000;
 /// How many differences are printed whole.
 const SHOWN: u32 = 5;
@@ -133,12 +133,13 @@ impl Worker<'_> {
         );
     }
 
-    /// Reports on pages that just hold the rows, that lack a byte, that are longer, and on the case's own.
+    /// Reports on pages that just hold the rows, that lack a byte, that are longer, that hold all rows there could be, and
+    /// on the case's own.
     fn reports(&mut self, random: &mut Random, case: &Case) {
         let log = log_of(case);
         let rows = count(log, case.moment);
         let more = random.between(1, 40) as isize;
-        for page in [Page::Rows(0), Page::Rows(-1), Page::Rows(more), case.page] {
+        for page in [Page::Rows(0), Page::Rows(-1), Page::Rows(more), roomy(log), case.page] {
             let page = random.bytes(page.length(rows));
             let plain = second::plain_report(log.terms, log.buffer, log.used, case.moment, &page);
             let theirs = self.report(log, case.moment, &page);
@@ -334,6 +335,13 @@ fn count(log: Log, moment: u32) -> usize {
         some
     };
     all.value as usize
+}
+
+/// A page for five rows of each record under each schema.
+fn roomy(log: Log) -> Page {
+    let used = log.buffer.get(..log.used).unwrap_or_default();
+    let most = Terms::read(log.terms).map_or(0, |terms| 5 * terms.schemas.len() * generate::walk(&terms, used).len());
+    Page::Bytes(ROW * most)
 }
 
 /// The bytes of an accepted log's records that are stamped before a moment; stamps do not fall, so they come first.

@@ -51,6 +51,9 @@ pub const WIDE: Size = Size {
     large: true,
 };
 
+/// Bytes for five rows of each of 22 subjects: a page that small cases cannot fill.
+const ROOMY: usize = 1_980;
+
 /// The length of a page, to be fixed once the number of rows is known.
 #[derive(Clone, Copy)]
 pub enum Page {
@@ -324,6 +327,9 @@ fn page(random: &mut Random, aims: &[u32]) -> Page {
             Page::Bytes(0),
             Page::Rows(0),
         ]);
+    }
+    if random.one_in(20) {
+        return Page::Bytes(ROOMY);
     }
     let some = random.index(100);
     random.pick(&[
