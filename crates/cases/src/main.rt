@@ -1,7 +1,7 @@
 // Runs the five calls on the cases of its input and prints what each answers.
 // The first lines of the file stdin say how a case is written.
 mod ask;
-mod calls;
+mod runs;
 mod show;
 mod strike;
 mod text;
@@ -9,11 +9,11 @@ mod text;
 use ask::Ask;
 use ask::read_call;
 use ask::read_used;
-use calls::LOG_LENGTH;
-use calls::run_call;
 use console::say;
 use grammar::byte_at;
 use libc::STDIN_FILENO;
+use runs::LOG_LENGTH;
+use runs::run_call;
 use show::show_bad;
 use text::NO_BYTE;
 use text::Number;

@@ -1,17 +1,17 @@
 // Prints what the calls answer.
+use calls::Appended;
+use calls::Checked;
+use calls::Refusal;
+use calls::Reported;
+use calls::Standing;
 use console::say;
 use console::say_next;
 use console::say_refusal;
 use console::say_rows;
 use grammar::byte_at;
 use libc::STDOUT_FILENO;
-use model::Appended;
-use model::Checked;
-use model::Entries;
-use model::Refusal;
-use model::Reported;
-use model::Standing;
-use model::Time;
+use meaning::Entries;
+use meaning::Time;
 use report::ROW_LENGTH;
 ghost use Prim.Native.Nat.{_≤_};
 ghost use lib.ListN.{length};

@@ -1,11 +1,11 @@
 // What a call answered and left in memory, held to what the second implementation did.
+use calls::Appended;
+use calls::Checked;
+use calls::Reported;
+use calls::Standing;
 use grammar::u32_at;
-use model::Appended;
-use model::Checked;
-use model::Entries;
-use model::Reported;
-use model::Standing;
-use model::Time;
+use meaning::Entries;
+use meaning::Time;
 ghost use Prim.Native.Nat.{_<_};
 
 // What stands for an entry that is not yet.

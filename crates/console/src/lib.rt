@@ -1,11 +1,11 @@
 // What the programs read and print: buffers filled from standard input; words, numbers, refusals and rows on standard output.
+use calls::Refusal;
 use grammar::byte_at;
 use grammar::u32_at;
 use libc::STDIN_FILENO;
 use libc::STDOUT_FILENO;
-use model::Refusal;
-use model::Stage;
-use model::StageForm;
+use meaning::Stage;
+use meaning::StageForm;
 use report::ROW_LENGTH;
 ghost use Prim.Native.Nat.{_+_, _≤_};
 ghost use lib.ListN.{length};

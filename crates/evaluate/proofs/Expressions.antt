@@ -8,20 +8,19 @@ use Prim.Native.Nat.{ℕ, _+_, _*_, _<_}
 use mathlib.Core.Path.{_≡_}
 use mathlib.Core.List.{List}
 use lib.ListN.{length, getD}
-use Rattle.model.specs.declared.Time.{Time}
-use Rattle.model.specs.declared.Time.the-variants.{At, Never}
-use Rattle.model.specs.declared.Stage.{Stage}
-use Rattle.model.specs.declared.NormType.{NormType}
-use Rattle.model.specs.declared.Leaf.{Leaf}
-use Rattle.model.specs.declared.Times.{Times}
-use Rattle.model.specs.Time.{laterOf}
-use Rattle.model.specs.Terms.{Expr, leaf, and, or, except, always, schemaAt}
-use Rattle.model.specs.Meaning.{cited, andOf, orOf, exceptOf, leafOccurrence, leafFailure, timesOf, stageFrom, stageStep, stageTime}
-use Rattle.model.specs.Grammar.{exprLimit, fileOf}
-use Rattle.model.specs.Fields.{neither, exprAt}
-use Rattle.model.specs.Calls.{termsOf}
-use Rattle.model.proofs.FieldLaws.{neither-silent}
-use Rattle.model.proofs.Equation.{time-equation}
+use Rattle.meaning.specs.declared.Time.{Time}
+use Rattle.meaning.specs.declared.Time.the-variants.{At, Never}
+use Rattle.meaning.specs.declared.Stage.{Stage}
+use Rattle.meaning.specs.declared.NormType.{NormType}
+use Rattle.meaning.specs.declared.Leaf.{Leaf}
+use Rattle.meaning.specs.declared.Times.{Times}
+use Rattle.meaning.specs.Time.{laterOf}
+use Rattle.meaning.specs.Terms.{Expr, leaf, and, or, except, always, schemaAt}
+use Rattle.meaning.specs.Meaning.{cited, andOf, orOf, exceptOf, leafOccurrence, leafFailure, timesOf, stageFrom, stageStep, stageTime}
+use Rattle.format.specs.Grammar.{exprLimit, fileOf}
+use Rattle.format.specs.Fields.{neither, exprAt, termsOf}
+use Rattle.meaning.proofs.Equation.{time-equation}
+use Rattle.format.proofs.FieldLaws.{neither-silent}
 use Rattle.grammar.specs.Places.{Starts}
 use Rattle.log.specs.Holds.{recordAt}
 use Rattle.fields.specs.declared.Expression.{Expression}

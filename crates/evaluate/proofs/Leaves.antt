@@ -11,18 +11,18 @@ use native.Mathlib.Omega.{arith}
 use mathlib.Core.Path.{_≡_, refl, ap, sym, _∙_, fun-ext}
 use mathlib.Core.Logic.{_⊎_, inl, inr}
 use mathlib.Core.List.{List}
-use Rattle.model.specs.declared.Time.{Time}
-use Rattle.model.specs.declared.Time.the-variants.{At, Never}
-use Rattle.model.specs.declared.Event.{Event}
-use Rattle.model.specs.declared.Bound.{Bound}
-use Rattle.model.specs.declared.Bound.the-variants.{Plain, Plus, Minus, Open}
-use Rattle.model.specs.declared.Leaf.{Leaf}
-use Rattle.model.specs.declared.Edge.{Edge}
-use Rattle.model.specs.declared.Edge.the-variants.{Minute, Endless}
-use Rattle.model.specs.Time.{laterOf, onceKnown, ifNever}
-use Rattle.model.specs.Meaning.{reached, edgeOf, first, firstWithin, known, leafOccurrence, failureAt, leafFailure}
-use Rattle.model.proofs.TimeLaws.{ifNever-never, onceKnown-never}
-use Rattle.model.proofs.EdgeLaws.{first-whole}
+use Rattle.meaning.specs.declared.Time.{Time}
+use Rattle.meaning.specs.declared.Time.the-variants.{At, Never}
+use Rattle.meaning.specs.declared.Event.{Event}
+use Rattle.meaning.specs.declared.Bound.{Bound}
+use Rattle.meaning.specs.declared.Bound.the-variants.{Plain, Plus, Minus, Open}
+use Rattle.meaning.specs.declared.Leaf.{Leaf}
+use Rattle.meaning.specs.declared.Edge.{Edge}
+use Rattle.meaning.specs.declared.Edge.the-variants.{Minute, Endless}
+use Rattle.meaning.specs.Time.{laterOf, onceKnown, ifNever}
+use Rattle.meaning.specs.Meaning.{reached, edgeOf, first, firstWithin, known, leafOccurrence, failureAt, leafFailure}
+use Rattle.meaning.proofs.TimeLaws.{ifNever-never, onceKnown-never}
+use Rattle.meaning.proofs.EdgeLaws.{first-whole}
 use Rattle.evaluate.specs.declared.KnownBound.{KnownBound}
 use Rattle.evaluate.specs.declared.KnownBound.the-variants.{Known, Unknown}
 use Rattle.evaluate.specs.Seen.{under, knownAs}

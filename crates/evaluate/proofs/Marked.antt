@@ -8,13 +8,13 @@ use mathlib.Core.Path.{_≡_, refl, sym, ap, _∙_}
 use mathlib.Core.Bool.{true, false}
 use mathlib.Core.List.{List}
 use lib.ListN.{length}
-use Rattle.model.specs.Terms.{kindAt}
-use Rattle.model.specs.Log.{place, carried, carries, bothCarry, valueOf, correlate}
-use Rattle.model.specs.Bytes.{byteAt, numberAt}
-use Rattle.model.specs.Records.{valueWidth}
-use Rattle.model.specs.Calls.{termsOf}
-use Rattle.model.proofs.MaskLaws.{place-carried}
-use Rattle.model.proofs.WalkLaws.{kind-here, value-here}
+use Rattle.meaning.specs.Terms.{kindAt}
+use Rattle.meaning.specs.Log.{place, carried, carries, bothCarry, valueOf, correlate}
+use Rattle.format.specs.Bytes.{byteAt, numberAt}
+use Rattle.format.specs.Fields.{termsOf}
+use Rattle.format.specs.Records.{valueWidth}
+use Rattle.meaning.proofs.MaskLaws.{place-carried}
+use Rattle.format.proofs.WalkLaws.{kind-here, value-here}
 use Rattle.log.specs.Holds.{Stands}
 use Rattle.log.proofs.Apart.{each-carries, apart}
 use Rattle.log.proofs.Steps.{stands-whole}

@@ -15,24 +15,24 @@ use mathlib.Core.List.{List, [], _∷_, map}
 use lib.Dec.{eqb}
 use lib.ListN.{length, getD, drop, drop-of-length-le}
 use borrow.Author.Tests.{eq-eqb, ne-eqb}
-use Rattle.model.specs.declared.Time.{Time}
-use Rattle.model.specs.declared.Time.the-variants.{At, Never}
-use Rattle.model.specs.declared.Stage.{Stage}
-use Rattle.model.specs.declared.Event.{Event}
-use Rattle.model.specs.declared.Event.the-variants.{Kind, StageOf}
-use Rattle.model.specs.declared.Edge.{Edge}
-use Rattle.model.specs.declared.Edge.the-variants.{Minute, Endless}
-use Rattle.model.specs.Time.{earlierOf, before, from}
-use Rattle.model.specs.Terms.{Terms, kindOf, rank}
-use Rattle.model.specs.Log.{Record, Log, correlate}
-use Rattle.model.specs.Bytes.{byteAt}
-use Rattle.model.specs.Meaning.{cited, earliest, fromEdge, beforeEdge, timeBy, happening, firstWithin, stageTime}
-use Rattle.model.specs.Lists.{All}
-use Rattle.model.specs.Records.{valueWidth}
-use Rattle.model.specs.Calls.{termsOf}
-use Rattle.model.proofs.WalkLaws.{kind-here}
-use Rattle.model.proofs.TimeLaws.{earlier-assoc, earlier-never}
-use Rattle.model.proofs.Equation.{cited-below, cited-above}
+use Rattle.meaning.specs.declared.Time.{Time}
+use Rattle.meaning.specs.declared.Time.the-variants.{At, Never}
+use Rattle.meaning.specs.declared.Stage.{Stage}
+use Rattle.meaning.specs.declared.Event.{Event}
+use Rattle.meaning.specs.declared.Event.the-variants.{Kind, StageOf}
+use Rattle.meaning.specs.declared.Edge.{Edge}
+use Rattle.meaning.specs.declared.Edge.the-variants.{Minute, Endless}
+use Rattle.meaning.specs.Lists.{All}
+use Rattle.meaning.specs.Time.{earlierOf, before, from}
+use Rattle.meaning.specs.Terms.{Terms, kindOf, rank}
+use Rattle.meaning.specs.Log.{Record, Log, correlate}
+use Rattle.meaning.specs.Meaning.{cited, earliest, fromEdge, beforeEdge, timeBy, happening, firstWithin, stageTime}
+use Rattle.format.specs.Bytes.{byteAt}
+use Rattle.format.specs.Fields.{termsOf}
+use Rattle.format.specs.Records.{valueWidth}
+use Rattle.meaning.proofs.TimeLaws.{earlier-assoc, earlier-never}
+use Rattle.meaning.proofs.Equation.{cited-below, cited-above}
+use Rattle.format.proofs.WalkLaws.{kind-here}
 use Rattle.log.specs.Holds.{Stands, recordAt}
 use Rattle.log.specs.Listed.{ofKind, Lists}
 use Rattle.log.proofs.Listed.{list-step, all-in, stands-in, earliest-of-kind}

@@ -3,11 +3,11 @@ use Prim.Native.Nat.{ℕ, _+_, _*_, _<_}
 use mathlib.Core.Path.{_≡_}
 use mathlib.Core.Bool.{true}
 use mathlib.Core.List.{List}
-use Rattle.model.specs.Terms.{kindAt}
-use Rattle.model.specs.Log.{place, attributes, valueOf, bothCarry}
-use Rattle.model.specs.Bytes.{byteAt}
-use Rattle.model.specs.Records.{valueWidth}
-use Rattle.model.specs.Calls.{termsOf}
+use Rattle.meaning.specs.Terms.{kindAt}
+use Rattle.meaning.specs.Log.{place, attributes, valueOf, bothCarry}
+use Rattle.format.specs.Bytes.{byteAt}
+use Rattle.format.specs.Fields.{termsOf}
+use Rattle.format.specs.Records.{valueWidth}
 use Rattle.evaluate.specs.Seen.{recordIn}
 use Rattle.evaluate.specs.declared.marks.Mark.{Mark}
 use Rattle.evaluate.specs.declared.marks.Mark.the-variants.{Tells, Nothing}

@@ -1,15 +1,15 @@
 -- The model's meaning of what bytes hold, for a clause of a rank and the subject at a place of the log. Assumes nothing: these are definitions.
 use Prim.Native.Nat.{ℕ}
 use mathlib.Core.List.{List}
-use Rattle.model.specs.declared.Time.{Time}
-use Rattle.model.specs.declared.Time.the-variants.{At, Never}
-use Rattle.model.specs.declared.Stage.{Stage}
-use Rattle.model.specs.declared.Bound.{Bound}
-use Rattle.model.specs.Terms.{Terms}
-use Rattle.model.specs.Log.{Record, Log}
-use Rattle.model.specs.Meaning.{StageTimes, cited, edgeOf, stageTime}
-use Rattle.model.specs.Records.{valueWidth, recordsIn}
-use Rattle.model.specs.Calls.{termsOf}
+use Rattle.meaning.specs.declared.Time.{Time}
+use Rattle.meaning.specs.declared.Time.the-variants.{At, Never}
+use Rattle.meaning.specs.declared.Stage.{Stage}
+use Rattle.meaning.specs.declared.Bound.{Bound}
+use Rattle.meaning.specs.Terms.{Terms}
+use Rattle.meaning.specs.Log.{Record, Log}
+use Rattle.meaning.specs.Meaning.{StageTimes, cited, edgeOf, stageTime}
+use Rattle.format.specs.Fields.{termsOf}
+use Rattle.format.specs.Records.{valueWidth, recordsIn}
 use Rattle.grammar.specs.Places.{Placed}
 use Rattle.log.specs.Holds.{recordAt}
 use Rattle.log.specs.Listed.{Indexed}

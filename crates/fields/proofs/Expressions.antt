@@ -9,15 +9,15 @@ use mathlib.Core.Path.{_≡_, refl, sym, _∙_}
 use mathlib.Core.List.{List}
 use mathlib.Core.Option.{Option, none, some}
 use lib.ListN.{length, drop}
-use Rattle.model.specs.declared.Leaf.{Leaf}
-use Rattle.model.specs.Terms.{Expr, leaf}
-use Rattle.model.specs.Bytes.{byteAt}
-use Rattle.model.specs.Grammar.{size, readExpr}
-use Rattle.model.specs.Fields.{neither, exprAt}
-use Rattle.model.proofs.ReaderLaws.{none-some, found-eq}
-use Rattle.model.proofs.GrammarLaws.{E, size-positive}
-use Rattle.model.proofs.PlaceLaws.{item-short}
-use Rattle.model.proofs.ExprLaws.{Joining, and-joins, or-joins, except-joins, joins, Parts, read-none, join-is, expr-some, expr-none, expr-join}
+use Rattle.meaning.specs.declared.Leaf.{Leaf}
+use Rattle.meaning.specs.Terms.{Expr, leaf}
+use Rattle.format.specs.Bytes.{byteAt}
+use Rattle.format.specs.Grammar.{size, readExpr}
+use Rattle.format.specs.Fields.{neither, exprAt}
+use Rattle.format.proofs.ReaderLaws.{none-some, found-eq}
+use Rattle.format.proofs.GrammarLaws.{E, size-positive}
+use Rattle.format.proofs.PlaceLaws.{item-short}
+use Rattle.format.proofs.ExprLaws.{Joining, and-joins, or-joins, except-joins, joins, Parts, read-none, join-is, expr-some, expr-none, expr-join}
 use Rattle.grammar.specs.declared.ExpressionReading.{ExpressionReading}
 use Rattle.grammar.specs.declared.ExpressionReading.the-variants.{To, Nothing}
 use Rattle.grammar.specs.Found.{FoundExpr}

@@ -4,12 +4,12 @@ use mathlib.Core.Path.{_≡_}
 use mathlib.Core.List.{List}
 use mathlib.Core.Option.{Option, none, some}
 use lib.ListN.{length}
-use Rattle.model.specs.declared.Event.{Event}
-use Rattle.model.specs.declared.Bound.{Bound}
-use Rattle.model.specs.declared.Leaf.{Leaf}
-use Rattle.model.specs.Terms.{Expr, leaf, and, or, except, always}
-use Rattle.model.specs.Bytes.{byteAt}
-use Rattle.model.specs.Fields.{neither, exprAt}
+use Rattle.meaning.specs.declared.Event.{Event}
+use Rattle.meaning.specs.declared.Bound.{Bound}
+use Rattle.meaning.specs.declared.Leaf.{Leaf}
+use Rattle.meaning.specs.Terms.{Expr, leaf, and, or, except, always}
+use Rattle.format.specs.Bytes.{byteAt}
+use Rattle.format.specs.Fields.{neither, exprAt}
 use Rattle.fields.specs.declared.EventForm.{EventForm}
 use Rattle.fields.specs.declared.EventForm.the-variants as eventForm
 use Rattle.fields.specs.declared.BoundForm.{BoundForm}

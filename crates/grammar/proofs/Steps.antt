@@ -13,18 +13,18 @@ use lib.Dec.{ltb}
 use lib.ListN.{length, getD, take, drop, set, length-append, length-drop, length-set, List·getD-append}
 use lib.Seq.{drop-drop, take-at, getD-at, getD-set-same, getD-set-other}
 use borrow.Author.Tests.{ltb-true, ltb-false}
-use Rattle.model.specs.Terms.{leaf, always}
-use Rattle.model.specs.Bytes.{byteAt, item}
-use Rattle.model.specs.Grammar.{SchemaItems, size, readBoth, readExpr, readClause, readSchema}
+use Rattle.meaning.specs.Terms.{leaf, always}
+use Rattle.format.specs.Bytes.{byteAt, item}
+use Rattle.format.specs.Grammar.{SchemaItems, size, readBoth, readExpr, readClause, readSchema}
 use Rattle.grammar.specs.declared.Reading.{Reading}
 use Rattle.grammar.specs.declared.Reading.the-variants as reading
 use Rattle.grammar.specs.declared.ExpressionReading.{ExpressionReading}
 use Rattle.grammar.specs.declared.ExpressionReading.the-variants as expression
 use Rattle.grammar.specs.Found.{Found, FoundExpr}
 use Rattle.grammar.specs.Places.{ClausesAt, noItems, Starts}
-use Rattle.model.proofs.ReaderLaws.{item-sound}
-use Rattle.model.proofs.PlaceLaws.{drop-here, byte-inside, item-other}
-use Rattle.model.proofs.ExprLaws.{Joins, joins, read-always, read-none}
+use Rattle.format.proofs.ReaderLaws.{item-sound}
+use Rattle.format.proofs.PlaceLaws.{drop-here, byte-inside, item-other}
+use Rattle.format.proofs.ExprLaws.{Joins, joins, read-always, read-none}
 
 -- what is read at a connective's byte
 join-reads : (n items : ℕ) (s : List ℕ) (at : ℕ) (low : 4 ≤ byteAt s at) (high : byteAt s at ≤ 6)

@@ -4,9 +4,9 @@ use mathlib.Core.Path.{_≡_}
 use mathlib.Core.List.{List}
 use mathlib.Core.Option.{none, some}
 use lib.ListN.{length, drop}
-use Rattle.model.specs.Terms.{Expr}
-use Rattle.model.specs.Bytes.{Reader}
-use Rattle.model.specs.Grammar.{size, readExpr}
+use Rattle.meaning.specs.Terms.{Expr}
+use Rattle.format.specs.Bytes.{Reader}
+use Rattle.format.specs.Grammar.{size, readExpr}
 use Rattle.grammar.specs.declared.Reading.{Reading}
 use Rattle.grammar.specs.declared.Reading.the-variants as reading
 use Rattle.grammar.specs.declared.ExpressionReading.{ExpressionReading}

@@ -4,8 +4,8 @@ use mathlib.Core.Path.{_≡_}
 use mathlib.Core.List.{List, []}
 use mathlib.Core.Option.{none, some}
 use lib.ListN.{length, getD, take, drop}
-use Rattle.model.specs.Terms.{always}
-use Rattle.model.specs.Grammar.{SchemaItems, readClause, readSchema, fileOf}
+use Rattle.meaning.specs.Terms.{always}
+use Rattle.format.specs.Grammar.{SchemaItems, readClause, readSchema, fileOf}
 use Rattle.grammar.specs.declared.SchemaReading.{SchemaReading}
 use Rattle.grammar.specs.declared.SchemaReading.the-variants as schemaReading
 use Rattle.grammar.specs.declared.Layout.{Layout}

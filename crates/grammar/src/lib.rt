@@ -2,8 +2,8 @@
 ghost use mathlib.Core.Path.{_≡_};
 ghost use Prim.Native.Nat.{ℕ, _+_, _*_, _<_, _≤_};
 ghost use lib.ListN.{length, drop};
-ghost use Rattle.model.specs.Bytes.{byteAt, numberAt, many, item};
-ghost use Rattle.model.specs.Grammar.{kindsLimit, readClause, fileOf};
+ghost use Rattle.format.specs.Bytes.{byteAt, numberAt, many, item};
+ghost use Rattle.format.specs.Grammar.{kindsLimit, readClause, fileOf};
 ghost use Rattle.grammar.specs.Found.{Found, FoundExpr};
 ghost use Rattle.grammar.specs.Places.{FoundSchema, LaidOut};
 

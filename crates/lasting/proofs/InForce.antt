@@ -12,11 +12,11 @@ use contract.Lifetimes.{Lfts}
 use denote.Ref.{now}
 use denote.Triple.Clauses.{AtExit}
 use borrow.Fn.Kinds.{Dens, endedOf}
-use Rattle.model.specs.Records.{valueWidth}
-use Rattle.model.specs.Answers.{Answer, appendedAnswer, reportedAnswer, unpacked}
-use Rattle.model.specs.Calls.{Outcome, outcome, append, report, served}
-use Rattle.model.specs.Lasting.{Accepted, HeldLog, heldAfter, afterAppend, afterAppends, NoneBefore, reportOn}
-use Rattle.model.proofs.Lasts.{report-lasts, alike-same}
+use Rattle.format.specs.Records.{valueWidth}
+use Rattle.calls.specs.Answers.{Answer, appendedAnswer, reportedAnswer, unpacked}
+use Rattle.calls.specs.Calls.{Outcome, outcome, append, report, served}
+use Rattle.calls.specs.Lasting.{Accepted, HeldLog, heldAfter, afterAppend, afterAppends, NoneBefore, reportOn}
+use Rattle.calls.proofs.Lasts.{report-lasts, alike-same}
 use Rattle.append.proofs.append.Kinds as appendKinds
 use Rattle.append.proofs.append.Reads as appendReads
 use Rattle.report.proofs.report.Kinds as reportKinds

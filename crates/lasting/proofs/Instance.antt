@@ -5,16 +5,16 @@ use native.Mathlib.Omega.{arith}
 use mathlib.Core.Path.{_≡_, refl}
 use mathlib.Core.List.{List, [], _∷_, _++_}
 use denote.Ref.{RefT}
-use Rattle.model.specs.declared.Refusal.the-variants.{StampTooLow}
-use Rattle.model.specs.declared.Appended.the-variants as appendedCase
-use Rattle.model.specs.declared.Reported.the-variants as reportedCase
-use Rattle.model.specs.Records.{valueWidth}
-use Rattle.model.specs.Answers.{Answer, appendedAnswer, reportedAnswer, unpacked}
-use Rattle.model.specs.Calls.{Outcome}
-use Rattle.model.specs.Lasting.{HeldLog, Remains, SameReport}
-use Rattle.model.proofs.Computes.{computes}
-use Rattle.model.proofs.Instance.{held, other}
-use Rattle.model.proofs.Sample.{terms, log, writing, rest, row, gives}
+use Rattle.calls.specs.declared.Refusal.the-variants.{StampTooLow}
+use Rattle.calls.specs.declared.Appended.the-variants as appendedCase
+use Rattle.calls.specs.declared.Reported.the-variants as reportedCase
+use Rattle.format.specs.Records.{valueWidth}
+use Rattle.calls.specs.Answers.{Answer, appendedAnswer, reportedAnswer, unpacked}
+use Rattle.calls.specs.Calls.{Outcome}
+use Rattle.calls.specs.Lasting.{HeldLog, Remains, SameReport}
+use Rattle.calls.proofs.Computes.{computes}
+use Rattle.calls.proofs.Sample.{terms, log, writing, rest, row, gives}
+use Rattle.calls.proofs.Instance.{held, other}
 use Rattle.append.proofs.append.Reads as appendReads
 use Rattle.report.proofs.report.Reads as reportReads
 use Rattle.service.proofs.agreements_append.Reads as servedAppendReads

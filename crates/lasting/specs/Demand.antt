@@ -5,10 +5,10 @@
 use Prim.Native.Nat.{ℕ, _≤_}
 use mathlib.Core.Path.{_≡_}
 use mathlib.Core.List.{List, [], _∷_}
-use Rattle.model.specs.Lists.{All}
-use Rattle.model.specs.Records.{valueWidth, stampIn}
-use Rattle.model.specs.Calls.{Outcome}
-use Rattle.model.specs.Lasting.{Accepted, HeldLog, heldAfter, Remains, bytesBefore, SameReport}
+use Rattle.meaning.specs.Lists.{All}
+use Rattle.format.specs.Records.{valueWidth, stampIn}
+use Rattle.calls.specs.Calls.{Outcome}
+use Rattle.calls.specs.Lasting.{Accepted, HeldLog, heldAfter, Remains, bytesBefore, SameReport}
 
 -- which appends were made: under terms, on a held log, of an event, with what came of it
 abbrev pub AppendCalls : Type 1

@@ -7,9 +7,9 @@ use contract.Lifetimes.{Lfts}
 use denote.Ref.{now}
 use denote.Triple.Clauses.{AtExit}
 use borrow.Fn.Kinds.{Dens, endedOf}
-use Rattle.model.specs.Answers.{Answer, appendedAnswer, reportedAnswer, unpacked}
-use Rattle.model.specs.Calls.{Outcome}
-use Rattle.model.specs.Lasting.{HeldLog}
+use Rattle.calls.specs.Answers.{Answer, appendedAnswer, reportedAnswer, unpacked}
+use Rattle.calls.specs.Calls.{Outcome}
+use Rattle.calls.specs.Lasting.{HeldLog}
 use Rattle.append.proofs.append.Kinds as appendKinds
 use Rattle.append.proofs.append.Reads as appendReads
 use Rattle.report.proofs.report.Kinds as reportKinds

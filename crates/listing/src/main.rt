@@ -1,4 +1,5 @@
 // Lists a report. Standard input is three numbers of four bytes (how long the terms are, how long the log is, the moment), then both.
+use calls::Reported;
 use console::at_end;
 use console::fill;
 use console::say;
@@ -6,7 +7,6 @@ use console::say_refusal;
 use console::say_rows;
 use grammar::u32_at;
 use log::LOG_LIMIT;
-use model::Reported;
 use report::report;
 use terms::TERMS_LIMIT;
 ghost use mathlib.Core.Path.{_≡_};

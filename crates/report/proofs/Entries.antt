@@ -6,19 +6,19 @@ use Prim.Native.Nat.{ℕ, _+_, _*_, _<_}
 use mathlib.Core.Path.{_≡_}
 use mathlib.Core.List.{List}
 use lib.ListN.{length}
-use Rattle.model.specs.declared.Time.{Time}
-use Rattle.model.specs.declared.Time.the-variants.{At}
-use Rattle.model.specs.declared.Times.{Times}
-use Rattle.model.specs.declared.Stage.{Stage}
-use Rattle.model.specs.declared.Stage.the-variants.{Created, Detached, Expired, Discharged, Violated}
-use Rattle.model.specs.declared.NormType.{NormType}
-use Rattle.model.specs.declared.Entries.{Entries}
-use Rattle.model.specs.Time.{laterOf, before}
-use Rattle.model.specs.Terms.{schemaAt}
-use Rattle.model.specs.Meaning.{stageFrom}
-use Rattle.model.specs.Rows.{entriesOf}
-use Rattle.model.specs.Grammar.{fileOf}
-use Rattle.model.specs.Calls.{termsOf}
+use Rattle.meaning.specs.declared.Time.{Time}
+use Rattle.meaning.specs.declared.Time.the-variants.{At}
+use Rattle.meaning.specs.declared.Times.{Times}
+use Rattle.meaning.specs.declared.Stage.{Stage}
+use Rattle.meaning.specs.declared.Stage.the-variants.{Created, Detached, Expired, Discharged, Violated}
+use Rattle.meaning.specs.declared.NormType.{NormType}
+use Rattle.meaning.specs.declared.Entries.{Entries}
+use Rattle.meaning.specs.Time.{laterOf, before}
+use Rattle.meaning.specs.Terms.{schemaAt}
+use Rattle.meaning.specs.Meaning.{stageFrom}
+use Rattle.meaning.specs.Rows.{entriesOf}
+use Rattle.format.specs.Grammar.{fileOf}
+use Rattle.format.specs.Fields.{termsOf}
 use Rattle.grammar.specs.Places.{Starts}
 use Rattle.log.specs.Holds.{recordAt}
 use Rattle.times.specs.declared.Part.{Part}

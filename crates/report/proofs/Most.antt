@@ -10,18 +10,18 @@ use mathlib.Core.Bool.{Bool, true, false, cond}
 use mathlib.Core.List.{List, [], _∷_, _++_, map, flatMap}
 use lib.Dec.{eqb, ltb}
 use lib.ListN.{length, getD, take, drop, length-append, length-take, length-drop, length-map}
-use Rattle.model.specs.declared.Row.{Row}
-use Rattle.model.specs.declared.Stage.{Stage}
-use Rattle.model.specs.declared.Stage.the-variants.{Created, Detached, Expired, Discharged, Violated}
-use Rattle.model.specs.declared.Time.{Time}
-use Rattle.model.specs.declared.Time.the-variants.{At, Never}
-use Rattle.model.specs.Stages.{stages}
-use Rattle.model.specs.Terms.{Terms, schemaAt}
-use Rattle.model.specs.Log.{Record, Log}
-use Rattle.model.specs.Meaning.{stageTime}
-use Rattle.model.specs.Records.{valueWidth, recordsIn}
-use Rattle.model.specs.Rows.{rowOf, rowAt, isSubject, subjectRows, strike}
-use Rattle.model.specs.Calls.{termsOf}
+use Rattle.meaning.specs.declared.Row.{Row}
+use Rattle.meaning.specs.declared.Stage.{Stage}
+use Rattle.meaning.specs.declared.Stage.the-variants.{Created, Detached, Expired, Discharged, Violated}
+use Rattle.meaning.specs.declared.Time.{Time}
+use Rattle.meaning.specs.declared.Time.the-variants.{At, Never}
+use Rattle.meaning.specs.Stages.{stages}
+use Rattle.meaning.specs.Terms.{Terms, schemaAt}
+use Rattle.meaning.specs.Log.{Record, Log}
+use Rattle.meaning.specs.Meaning.{stageTime}
+use Rattle.meaning.specs.Rows.{rowOf, rowAt, isSubject, subjectRows, strike}
+use Rattle.format.specs.Fields.{termsOf}
+use Rattle.format.specs.Records.{valueWidth, recordsIn}
 use Rattle.log.specs.Holds.{recordAt}
 use Rattle.log.specs.Listed.{ofKind, Indexed}
 use Rattle.log.proofs.Index.{index-list}

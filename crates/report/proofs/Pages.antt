@@ -12,18 +12,18 @@ use native.Mathlib.Omega.{arith}
 use mathlib.Core.Path.{_≡_, refl, ap, sym, _∙_, fun-ext}
 use mathlib.Core.List.{List, [], _∷_, _++_, flatMap, append-nil}
 use lib.ListN.{length, set, length-append}
-use Rattle.model.specs.declared.Time.{Time}
-use Rattle.model.specs.declared.Time.the-variants.{At, Never}
-use Rattle.model.specs.declared.Stage.{Stage}
-use Rattle.model.specs.declared.Row.{Row}
-use Rattle.model.specs.Stages.{stageNumber}
-use Rattle.model.specs.Bytes.{bytesOf, written}
-use Rattle.model.specs.Records.{valueWidth, rowLength, rowBytes}
-use Rattle.model.specs.Rows.{rowOf, rowAt}
-use Rattle.model.specs.Calls.{termsOf}
-use Rattle.model.proofs.RowBytesLaws.{rows-length}
-use Rattle.model.proofs.ListLaws.{flatMap-append}
-use Rattle.model.proofs.WriteLaws.{written-length, written-none, written-more, written-one, written-put}
+use Rattle.meaning.specs.declared.Time.{Time}
+use Rattle.meaning.specs.declared.Time.the-variants.{At, Never}
+use Rattle.meaning.specs.declared.Stage.{Stage}
+use Rattle.meaning.specs.declared.Row.{Row}
+use Rattle.meaning.specs.Stages.{stageNumber}
+use Rattle.meaning.specs.Rows.{rowOf, rowAt}
+use Rattle.format.specs.Bytes.{bytesOf, written}
+use Rattle.format.specs.Fields.{termsOf}
+use Rattle.format.specs.Records.{valueWidth, rowLength, rowBytes}
+use Rattle.meaning.proofs.ListLaws.{flatMap-append}
+use Rattle.format.proofs.WrittenLaws.{written-length, written-none, written-more, written-one, written-put}
+use Rattle.format.proofs.RowBytesLaws.{rows-length}
 use Rattle.evaluate.specs.Seen.{recordIn}
 use Rattle.report.specs.declared.rows.Agreement.{Agreement}
 use Rattle.report.specs.Shown.{rowBy, withRows}

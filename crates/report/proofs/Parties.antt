@@ -12,21 +12,20 @@ use mathlib.Core.List.{List}
 use lib.Dec.{leb, ltb, eqb}
 use lib.ListN.{length, getD}
 use borrow.Author.Tests.{not-false}
-use Rattle.model.specs.declared.Stage.{Stage}
-use Rattle.model.specs.Lists.{numbersFrom, anyOf}
-use Rattle.model.specs.Terms.{kindAt, schemaAt}
-use Rattle.model.specs.Log.{carries, carried, valueOf, keyOf}
-use Rattle.model.specs.Bytes.{byteAt}
-use Rattle.model.specs.Grammar.{fileOf}
-use Rattle.model.specs.Fields.{schemaFrom, headWrong, kindsWrong, fieldWrong}
-use Rattle.model.specs.Records.{valueWidth, recordLength}
-use Rattle.model.specs.Rows.{rowOf}
-use Rattle.model.specs.Calls.{termsOf}
-use Rattle.model.proofs.BoolLaws.{or-false}
-use Rattle.model.proofs.MemberLaws.{anyOf-none, numbers-mem}
-use Rattle.model.proofs.PlaceLaws.{byte-within}
-use Rattle.model.proofs.KindLaws.{head-wrong-here}
-use Rattle.model.proofs.WalkLaws.{kind-here}
+use Rattle.meaning.specs.declared.Stage.{Stage}
+use Rattle.meaning.specs.Lists.{numbersFrom, anyOf}
+use Rattle.meaning.specs.Terms.{kindAt, schemaAt}
+use Rattle.meaning.specs.Log.{carries, carried, valueOf, keyOf}
+use Rattle.meaning.specs.Rows.{rowOf}
+use Rattle.format.specs.Bytes.{byteAt}
+use Rattle.format.specs.Grammar.{fileOf}
+use Rattle.format.specs.Fields.{schemaFrom, headWrong, kindsWrong, fieldWrong, termsOf}
+use Rattle.format.specs.Records.{valueWidth, recordLength}
+use Rattle.meaning.proofs.BoolLaws.{or-false}
+use Rattle.meaning.proofs.MemberLaws.{anyOf-none, numbers-mem}
+use Rattle.format.proofs.PlaceLaws.{byte-within}
+use Rattle.format.proofs.KindLaws.{head-wrong-here}
+use Rattle.format.proofs.WalkLaws.{kind-here}
 use Rattle.grammar.specs.Places.{noItems, Placed}
 use Rattle.terms.specs.declared.Fault.the-variants.{Field}
 use Rattle.terms.specs.Questions.{schemaHas}

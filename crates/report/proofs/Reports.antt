@@ -13,16 +13,16 @@ use lib.Dec.{ltb}
 use lib.ListN.{length, take}
 use lib.Seq.{length-take-le}
 use borrow.Author.Tests.{ltb-false}
-use Rattle.model.specs.declared.Refusal.{Refusal}
-use Rattle.model.specs.declared.Refusal.the-variants.{PageTooShort}
-use Rattle.model.specs.declared.Checked.{Checked}
-use Rattle.model.specs.declared.Checked.the-variants as checkedCase
-use Rattle.model.specs.declared.Reported.the-variants as reportedCase
-use Rattle.model.specs.Answers.{checkedAnswer, reportedAnswer}
-use Rattle.model.specs.Records.{valueWidth, rowLength}
-use Rattle.model.specs.Calls.{Check, refusal, logLimit, usedTooLong, logChecks, pageTooShort, pageChecks, checkLog, outcome, unlessRefused, onPage, rowsOf, report}
-use Rattle.model.proofs.BoolLaws.{or-false}
-use Rattle.model.proofs.WriteLaws.{refused-outcome}
+use Rattle.calls.specs.declared.Refusal.{Refusal}
+use Rattle.calls.specs.declared.Refusal.the-variants.{PageTooShort}
+use Rattle.calls.specs.declared.Checked.{Checked}
+use Rattle.calls.specs.declared.Checked.the-variants as checkedCase
+use Rattle.calls.specs.declared.Reported.the-variants as reportedCase
+use Rattle.format.specs.Records.{valueWidth, rowLength}
+use Rattle.calls.specs.Answers.{checkedAnswer, reportedAnswer}
+use Rattle.calls.specs.Calls.{Check, refusal, logLimit, usedTooLong, logChecks, pageTooShort, pageChecks, checkLog, outcome, unlessRefused, onPage, rowsOf, report}
+use Rattle.meaning.proofs.BoolLaws.{or-false}
+use Rattle.calls.proofs.WriteLaws.{refused-outcome}
 use Rattle.log.proofs.Checks.{used-inside, log-refused}
 use Rattle.report.specs.Shown.{schemasFrom, withRows}
 use Rattle.report.proofs.RowSteps.{all-rows}

@@ -15,21 +15,22 @@ use mathlib.Core.List.{List, [], _++_, flatMap, append-nil}
 use lib.Dec.{eqb}
 use lib.ListN.{length, take, drop}
 use borrow.Author.Tests.{eq-eqb, ne-eqb}
-use Rattle.model.specs.declared.Time.{Time}
-use Rattle.model.specs.declared.Stage.{Stage}
-use Rattle.model.specs.declared.Stage.the-variants.{Created, Detached, Expired, Discharged, Violated}
-use Rattle.model.specs.declared.Entries.{Entries}
-use Rattle.model.specs.declared.Row.{Row}
-use Rattle.model.specs.Lists.{numbersFrom}
-use Rattle.model.specs.Stages.{stages}
-use Rattle.model.specs.Terms.{schemaAt}
-use Rattle.model.specs.Bytes.{byteAt}
-use Rattle.model.specs.Records.{valueWidth, recordsIn}
-use Rattle.model.specs.Rows.{rowOf, rowAt, isSubject, subjectRows, timedRows, strike, reportRows, entriesOf}
-use Rattle.model.specs.Calls.{termsOf, logOf, rowsOf}
-use Rattle.model.proofs.WalkLaws.{kind-here}
-use Rattle.model.proofs.StrikeLaws.{strike-append}
-use Rattle.model.proofs.RowLaws.{rowsAt, subjectRowsAt, strike-subject}
+use Rattle.meaning.specs.declared.Time.{Time}
+use Rattle.meaning.specs.declared.Stage.{Stage}
+use Rattle.meaning.specs.declared.Stage.the-variants.{Created, Detached, Expired, Discharged, Violated}
+use Rattle.meaning.specs.declared.Entries.{Entries}
+use Rattle.meaning.specs.declared.Row.{Row}
+use Rattle.meaning.specs.Lists.{numbersFrom}
+use Rattle.meaning.specs.Stages.{stages}
+use Rattle.meaning.specs.Terms.{schemaAt}
+use Rattle.meaning.specs.Rows.{rowOf, rowAt, isSubject, subjectRows, timedRows, strike, reportRows, entriesOf}
+use Rattle.format.specs.Bytes.{byteAt}
+use Rattle.format.specs.Fields.{termsOf}
+use Rattle.format.specs.Records.{valueWidth, recordsIn, logOf}
+use Rattle.calls.specs.Calls.{rowsOf}
+use Rattle.meaning.proofs.StrikeLaws.{strike-append}
+use Rattle.meaning.proofs.RowLaws.{rowsAt, subjectRowsAt, strike-subject}
+use Rattle.format.proofs.WalkLaws.{kind-here}
 use Rattle.log.proofs.Steps.{Step}
 use Rattle.evaluate.specs.Seen.{logIn, recordIn}
 use Rattle.report.specs.Shown.{entriesIn, timely, recordRows, rowsFrom, schemasFrom}

@@ -13,21 +13,22 @@ use mathlib.Core.Option.{some}
 use lib.Dec.{ltb}
 use lib.ListN.{length, take, drop}
 use borrow.Author.Tests.{le-leb, lt-leb, eq-eqb, ne-eqb}
-use Rattle.model.specs.declared.Refusal.{Refusal}
-use Rattle.model.specs.declared.Refusal.the-variants.{NoSchema, NoSubject}
-use Rattle.model.specs.declared.Checked.{Checked}
-use Rattle.model.specs.declared.Checked.the-variants as checkedCase
-use Rattle.model.specs.declared.Standing.the-variants as standingCase
-use Rattle.model.specs.declared.Entries.{Entries}
-use Rattle.model.specs.Terms.{Terms, schemaAt}
-use Rattle.model.specs.Log.{Record, keyOf}
-use Rattle.model.specs.Bytes.{byteAt}
-use Rattle.model.specs.Records.{valueWidth, recordsIn}
-use Rattle.model.specs.Rows.{find, isSought}
-use Rattle.model.specs.Answers.{refusalNumber, checkedAnswer, standingAnswer}
-use Rattle.model.specs.Calls.{Check, refusal, termsOf, logOf, logChecks, checkLog, noSchema, missing, standingSubject, keyChecks, entriesFor, standingAs, standing}
-use Rattle.model.proofs.AnswerLaws.{refusal-positive}
-use Rattle.model.proofs.StandingLaws.{refused-entries}
+use Rattle.calls.specs.declared.Refusal.{Refusal}
+use Rattle.calls.specs.declared.Refusal.the-variants.{NoSchema, NoSubject}
+use Rattle.calls.specs.declared.Checked.{Checked}
+use Rattle.calls.specs.declared.Checked.the-variants as checkedCase
+use Rattle.calls.specs.declared.Standing.the-variants as standingCase
+use Rattle.meaning.specs.declared.Entries.{Entries}
+use Rattle.meaning.specs.Terms.{Terms, schemaAt}
+use Rattle.meaning.specs.Log.{Record, keyOf}
+use Rattle.meaning.specs.Rows.{find, isSought}
+use Rattle.format.specs.Bytes.{byteAt}
+use Rattle.format.specs.Fields.{termsOf}
+use Rattle.format.specs.Records.{valueWidth, recordsIn, logOf}
+use Rattle.calls.specs.Answers.{refusalNumber, checkedAnswer, standingAnswer}
+use Rattle.calls.specs.Calls.{Check, refusal, logChecks, checkLog, noSchema, missing, standingSubject, keyChecks, entriesFor, standingAs, standing}
+use Rattle.calls.proofs.AnswerLaws.{refusal-positive}
+use Rattle.calls.proofs.StandingLaws.{refused-entries}
 use Rattle.log.specs.Holds.{recordAt}
 use Rattle.log.proofs.Steps.{Step}
 use Rattle.log.proofs.Checks.{log-refused}

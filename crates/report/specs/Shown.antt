@@ -4,14 +4,14 @@ use mathlib.Core.Path.{_≡_}
 use mathlib.Core.List.{List, flatMap}
 use mathlib.Core.Option.{none, some}
 use lib.ListN.{length, drop}
-use Rattle.model.specs.declared.Stage.{Stage}
-use Rattle.model.specs.declared.Entries.{Entries}
-use Rattle.model.specs.declared.Row.{Row}
-use Rattle.model.specs.Lists.{numbersFrom}
-use Rattle.model.specs.Bytes.{written}
-use Rattle.model.specs.Records.{valueWidth, recordsIn, rowBytes}
-use Rattle.model.specs.Rows.{subjectRows, strike, subjectOf, entriesOf}
-use Rattle.model.specs.Calls.{termsOf}
+use Rattle.meaning.specs.declared.Stage.{Stage}
+use Rattle.meaning.specs.declared.Entries.{Entries}
+use Rattle.meaning.specs.declared.Row.{Row}
+use Rattle.meaning.specs.Lists.{numbersFrom}
+use Rattle.meaning.specs.Rows.{subjectRows, strike, subjectOf, entriesOf}
+use Rattle.format.specs.Bytes.{written}
+use Rattle.format.specs.Fields.{termsOf}
+use Rattle.format.specs.Records.{valueWidth, recordsIn, rowBytes}
 use Rattle.log.specs.Holds.{Stands}
 use Rattle.evaluate.specs.Seen.{logIn, recordIn}
 use Rattle.report.specs.declared.rows.Agreement.{Agreement}

@@ -7,10 +7,10 @@ use mathlib.Core.Path.{_≡_, ap, _∙_}
 use mathlib.Core.List.{List}
 use contract.Lifetimes.{Lfts}
 use denote.Ref.{now}
-use Rattle.model.specs.Answers.{Answer, packed, unpacked}
-use Rattle.model.specs.Records.{valueWidth}
-use Rattle.model.specs.Calls.{checked, checkTerms, checkLog, append, report, served}
-use Rattle.model.proofs.AnswerLaws.{packed-split}
+use Rattle.format.specs.Records.{valueWidth}
+use Rattle.calls.specs.Answers.{Answer, packed, unpacked}
+use Rattle.calls.specs.Calls.{checked, checkTerms, checkLog, append, report, served}
+use Rattle.calls.proofs.AnswerLaws.{packed-split}
 use Rattle.service.proofs.Values.{append-below, report-below}
 use Rattle.service.proofs.agreements_check_terms.Reads as check-terms
 use Rattle.service.proofs.agreements_check_log.Reads as check-log

@@ -7,22 +7,23 @@ use mathlib.Core.Path.{_≡_, refl}
 use mathlib.Core.Bool.{Bool, true, false}
 use mathlib.Core.List.{List, [], _∷_, flatMap}
 use lib.ListN.{length, length-append, length-map, take}
-use Rattle.model.specs.declared.Time.{Time}
-use Rattle.model.specs.declared.Time.the-variants.{At, Never}
-use Rattle.model.specs.declared.Row.{Row}
-use Rattle.model.specs.Lists.{numbersFrom}
-use Rattle.model.specs.Stages.{stages}
-use Rattle.model.specs.Terms.{Terms}
-use Rattle.model.specs.Log.{Record, Log}
-use Rattle.model.specs.Rows.{rowAt, isSubject}
-use Rattle.model.specs.Grammar.{schemasLimit}
-use Rattle.model.specs.Records.{valueWidth, readRecord, readLog, recordsIn}
-use Rattle.model.specs.Calls.{logLimit, termsOf, logOf, append, rowsOf, report}
-use Rattle.model.proofs.ReaderLaws.{many-count}
-use Rattle.model.proofs.GrammarLaws.{file-read}
-use Rattle.model.proofs.RefusalLaws.{report-accepted}
-use Rattle.model.proofs.WriteLaws.{report-refused, append-refused, report-keeps, append-keeps}
-use Rattle.model.proofs.RowLaws.{rowsAt, subjectRowsAt, report-order}
+use Rattle.meaning.specs.declared.Time.{Time}
+use Rattle.meaning.specs.declared.Time.the-variants.{At, Never}
+use Rattle.meaning.specs.declared.Row.{Row}
+use Rattle.meaning.specs.Lists.{numbersFrom}
+use Rattle.meaning.specs.Stages.{stages}
+use Rattle.meaning.specs.Terms.{Terms}
+use Rattle.meaning.specs.Log.{Record, Log}
+use Rattle.meaning.specs.Rows.{rowAt, isSubject}
+use Rattle.format.specs.Grammar.{schemasLimit}
+use Rattle.format.specs.Fields.{termsOf}
+use Rattle.format.specs.Records.{valueWidth, readRecord, readLog, recordsIn, logOf}
+use Rattle.calls.specs.Calls.{logLimit, append, rowsOf, report}
+use Rattle.meaning.proofs.RowLaws.{rowsAt, subjectRowsAt, report-order}
+use Rattle.format.proofs.ReaderLaws.{many-count}
+use Rattle.format.proofs.GrammarLaws.{file-read}
+use Rattle.calls.proofs.RefusalLaws.{report-accepted}
+use Rattle.calls.proofs.WriteLaws.{report-refused, append-refused, report-keeps, append-keeps}
 use Rattle.terms.proofs.Faults.{schemas-count}
 use Rattle.report.proofs.Reports.{used-few}
 

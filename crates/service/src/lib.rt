@@ -1,12 +1,12 @@
 // Calls 1 to 4 for the library service, which is written in C: each answers one 64-bit number.
-use model::Appended;
-use model::Checked;
-use model::Reported;
+use calls::Appended;
+use calls::Checked;
+use calls::Reported;
 ghost use mathlib.Core.Path.{_≡_};
 ghost use Prim.Native.Nat.{_+_, _*_, _<_, _^_};
-ghost use Rattle.model.specs.Records.{valueWidth};
-ghost use Rattle.model.specs.Answers.{checkedAnswer, appendedAnswer, reportedAnswer, packed};
-ghost use Rattle.model.specs.Calls.{checkTerms, checkLog, append, report, served};
+ghost use Rattle.format.specs.Records.{valueWidth};
+ghost use Rattle.calls.specs.Answers.{checkedAnswer, appendedAnswer, reportedAnswer, packed};
+ghost use Rattle.calls.specs.Calls.{checkTerms, checkLog, append, report, served};
 
 // A refusal's number, or 0, and a count or length, or 0, in one number.
 fn pack(number: u64, value: u64) -> u64

@@ -5,11 +5,10 @@ use Prim.Native.Nat.{ℕ, _+_, _*_, _<_}
 use mathlib.Core.Path.{_≡_}
 use mathlib.Core.List.{List}
 use lib.ListN.{length, getD}
-use Rattle.model.specs.Terms.{schemaAt}
-use Rattle.model.specs.Grammar.{exprLimit, fileOf}
-use Rattle.model.specs.Fields.{schemaFrom, exprAt}
-use Rattle.model.specs.Calls.{termsOf}
-use Rattle.model.proofs.ExprLaws.{expr-clause}
+use Rattle.meaning.specs.Terms.{schemaAt}
+use Rattle.format.specs.Grammar.{exprLimit, fileOf}
+use Rattle.format.specs.Fields.{schemaFrom, exprAt, termsOf}
+use Rattle.format.proofs.ExprLaws.{expr-clause}
 use Rattle.grammar.specs.Places.{Starts}
 use Rattle.terms.proofs.Steps.{schema-here}
 

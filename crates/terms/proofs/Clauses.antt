@@ -12,14 +12,14 @@ use mathlib.Core.Bool.{Bool, true, false, _||_}
 use mathlib.Core.List.{List}
 use mathlib.Core.Option.{some}
 use lib.ListN.{length, take, drop}
-use Rattle.model.specs.Lists.{anyOf}
-use Rattle.model.specs.Terms.{leaves}
-use Rattle.model.specs.Bytes.{byteAt}
-use Rattle.model.specs.Grammar.{size, readExpr}
-use Rattle.model.specs.Calls.{termsOf}
-use Rattle.model.proofs.ListLaws.{any-append}
-use Rattle.model.proofs.GrammarLaws.{E, Connective, size-positive, expr-read}
-use Rattle.model.proofs.ExprLaws.{Joins, joins, Parts, read-inside, leaf-is, always-is, join-is}
+use Rattle.meaning.specs.Lists.{anyOf}
+use Rattle.meaning.specs.Terms.{leaves}
+use Rattle.format.specs.Bytes.{byteAt}
+use Rattle.format.specs.Grammar.{size, readExpr}
+use Rattle.format.specs.Fields.{termsOf}
+use Rattle.meaning.proofs.ListLaws.{any-append}
+use Rattle.format.proofs.GrammarLaws.{E, Connective, size-positive, expr-read}
+use Rattle.format.proofs.ExprLaws.{Joins, joins, Parts, read-inside, leaf-is, always-is, join-is}
 use Rattle.grammar.specs.Found.{StandsExpr}
 use Rattle.terms.specs.declared.Question.{Question}
 use Rattle.terms.specs.declared.Walked.{Walked}

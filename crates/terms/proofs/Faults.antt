@@ -14,14 +14,13 @@ use mathlib.Core.List.{List, [], _∷_}
 use lib.Dec.{eqb, ltb, eqb·suc-zero}
 use lib.ListN.{length, getD, take, length-map}
 use lib.Seq.{length-take-le, getD-take}
-use Rattle.model.specs.Lists.{numbersFrom, isEmpty, anyOf}
-use Rattle.model.specs.Terms.{Expr, schemaAt}
-use Rattle.model.specs.Grammar.{schemasLimit, fileOf, breaksGrammar}
-use Rattle.model.specs.Fields.{exprFrom, schemaFrom, termsFrom, headWrong, schemaWrong, kindsWrong, fieldWrong, anyEvent, citesTooHigh, citationWrong, unsharedIn, unsharedEvent}
-use Rattle.model.specs.Calls.{termsOf}
-use Rattle.model.proofs.GrammarLaws.{file-read}
-use Rattle.model.proofs.PlaceLaws.{left-over}
-use Rattle.model.proofs.ExprLaws.{any-event}
+use Rattle.meaning.specs.Lists.{numbersFrom, isEmpty, anyOf}
+use Rattle.meaning.specs.Terms.{Expr, schemaAt}
+use Rattle.format.specs.Grammar.{schemasLimit, fileOf, breaksGrammar}
+use Rattle.format.specs.Fields.{exprFrom, schemaFrom, termsFrom, headWrong, schemaWrong, kindsWrong, fieldWrong, anyEvent, citesTooHigh, citationWrong, unsharedIn, unsharedEvent, termsOf}
+use Rattle.format.proofs.GrammarLaws.{file-read}
+use Rattle.format.proofs.PlaceLaws.{left-over}
+use Rattle.format.proofs.ExprLaws.{any-event}
 use Rattle.grammar.specs.declared.Layout.{Layout}
 use Rattle.grammar.specs.Places.{noItems, Placed, LaidOut}
 use Rattle.terms.specs.declared.EventQuestion.{EventQuestion}

@@ -13,15 +13,14 @@ use mathlib.Core.Path.{_≡_, refl, ap, sym, _∙_}
 use mathlib.Core.Bool.{Bool, true, false, _||_}
 use mathlib.Core.List.{List, [], _∷_, map}
 use lib.ListN.{length, getD, length-map, List·getD-eq-default}
-use Rattle.model.specs.Lists.{numbersFrom, anyOf}
-use Rattle.model.specs.declared.Leaf.{Leaf}
-use Rattle.model.specs.Terms.{Terms, Schema, schemaAt, boundEvents, leafEvents}
-use Rattle.model.specs.Bytes.{byteAt}
-use Rattle.model.specs.Grammar.{fileOf}
-use Rattle.model.specs.Fields.{normTypeOf, leafFrom, schemaFrom, termsFrom}
-use Rattle.model.specs.Calls.{termsOf}
-use Rattle.model.proofs.PlaceLaws.{byte-within}
-use Rattle.model.proofs.ListLaws.{any-here, any-behind, any-append}
+use Rattle.meaning.specs.declared.Leaf.{Leaf}
+use Rattle.meaning.specs.Lists.{numbersFrom, anyOf}
+use Rattle.meaning.specs.Terms.{Terms, Schema, schemaAt, boundEvents, leafEvents}
+use Rattle.format.specs.Bytes.{byteAt}
+use Rattle.format.specs.Grammar.{fileOf}
+use Rattle.format.specs.Fields.{normTypeOf, leafFrom, schemaFrom, termsFrom, termsOf}
+use Rattle.meaning.proofs.ListLaws.{any-here, any-behind, any-append}
+use Rattle.format.proofs.PlaceLaws.{byte-within}
 use Rattle.grammar.specs.Places.{noItems, Starts}
 use Rattle.terms.specs.declared.EventQuestion.{EventQuestion}
 use Rattle.terms.specs.declared.Question.the-variants.{SomeEvent}

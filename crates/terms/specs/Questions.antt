@@ -5,12 +5,11 @@ use mathlib.Core.Bool.{Bool, true, false, _||_}
 use mathlib.Core.List.{List}
 use mathlib.Core.Option.{some}
 use lib.ListN.{length, getD, drop}
-use Rattle.model.specs.declared.Event.{Event}
-use Rattle.model.specs.Lists.{anyOf}
-use Rattle.model.specs.Terms.{Terms, Expr, schemaAt, leaves, leafEvents}
-use Rattle.model.specs.Grammar.{size, readExpr, fileOf, readClause}
-use Rattle.model.specs.Fields.{leafFrom, leafWrong, schemaWrong, citesFrom, sharesNone, citesTooHigh, unsharedIn}
-use Rattle.model.specs.Calls.{termsOf}
+use Rattle.meaning.specs.declared.Event.{Event}
+use Rattle.meaning.specs.Lists.{anyOf}
+use Rattle.meaning.specs.Terms.{Terms, Expr, schemaAt, leaves, leafEvents}
+use Rattle.format.specs.Grammar.{size, readExpr, fileOf, readClause}
+use Rattle.format.specs.Fields.{leafFrom, leafWrong, schemaWrong, citesFrom, sharesNone, citesTooHigh, unsharedIn, termsOf}
 use Rattle.grammar.specs.Places.{noItems}
 use Rattle.terms.specs.declared.EventQuestion.{EventQuestion}
 use Rattle.terms.specs.declared.EventQuestion.the-variants.{CitesFrom, SharesNone}

@@ -1,11 +1,11 @@
 -- A stage's time asks for no more of its clauses' times than the parts say. Assumes nothing.
 use mathlib.Core.Path.{_≡_, refl}
-use Rattle.model.specs.declared.Times.{Times}
-use Rattle.model.specs.declared.Stage.{Stage}
-use Rattle.model.specs.declared.Stage.the-variants.{Created, Detached, Expired, Discharged, Violated}
-use Rattle.model.specs.declared.NormType.{NormType}
-use Rattle.model.specs.declared.NormType.the-variants.{Commitment, Authorization, Prohibition, Power}
-use Rattle.model.specs.Meaning.{andOf, orOf, exceptOf, stageFrom}
+use Rattle.meaning.specs.declared.Times.{Times}
+use Rattle.meaning.specs.declared.Stage.{Stage}
+use Rattle.meaning.specs.declared.Stage.the-variants.{Created, Detached, Expired, Discharged, Violated}
+use Rattle.meaning.specs.declared.NormType.{NormType}
+use Rattle.meaning.specs.declared.NormType.the-variants.{Commitment, Authorization, Prohibition, Power}
+use Rattle.meaning.specs.Meaning.{andOf, orOf, exceptOf, stageFrom}
 use Rattle.times.specs.declared.Part.the-variants.{Occurrence, Both}
 use Rattle.times.specs.Parts.{partOf, detachPart, consequentPart, consequentParts}
 

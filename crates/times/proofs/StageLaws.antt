@@ -1,10 +1,10 @@
 -- A discharge and a violation, by norm type, as the code makes them. Assumes nothing.
 use mathlib.Core.Path.{_≡_}
-use Rattle.model.specs.declared.Times.{Times}
-use Rattle.model.specs.declared.Stage.the-variants.{Discharged, Violated}
-use Rattle.model.specs.declared.NormType.{NormType}
-use Rattle.model.specs.declared.NormType.the-variants.{Commitment, Authorization, Prohibition, Power}
-use Rattle.model.specs.Meaning.{andOf, orOf, exceptOf, stageFrom}
+use Rattle.meaning.specs.declared.Times.{Times}
+use Rattle.meaning.specs.declared.Stage.the-variants.{Discharged, Violated}
+use Rattle.meaning.specs.declared.NormType.{NormType}
+use Rattle.meaning.specs.declared.NormType.the-variants.{Commitment, Authorization, Prohibition, Power}
+use Rattle.meaning.specs.Meaning.{andOf, orOf, exceptOf, stageFrom}
 
 module _ (norm : NormType) (c r u : Times) where
   -- a commitment: (c and u) or (r and u)

@@ -1,10 +1,10 @@
 -- Which of a clause's two times a stage needs; the other is left out as none. Assumes nothing: these are definitions.
-use Rattle.model.specs.declared.Time.the-variants.{Never}
-use Rattle.model.specs.declared.Times.{Times}
-use Rattle.model.specs.declared.Stage.{Stage}
-use Rattle.model.specs.declared.Stage.the-variants.{Created, Detached, Expired, Discharged, Violated}
-use Rattle.model.specs.declared.NormType.{NormType}
-use Rattle.model.specs.declared.NormType.the-variants.{Commitment, Authorization, Prohibition, Power}
+use Rattle.meaning.specs.declared.Time.the-variants.{Never}
+use Rattle.meaning.specs.declared.Times.{Times}
+use Rattle.meaning.specs.declared.Stage.{Stage}
+use Rattle.meaning.specs.declared.Stage.the-variants.{Created, Detached, Expired, Discharged, Violated}
+use Rattle.meaning.specs.declared.NormType.{NormType}
+use Rattle.meaning.specs.declared.NormType.the-variants.{Commitment, Authorization, Prohibition, Power}
 use Rattle.times.specs.declared.Part.{Part}
 use Rattle.times.specs.declared.Part.the-variants.{Neither, Occurrence, Failure, Both}
 

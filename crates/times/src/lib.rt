@@ -1,13 +1,13 @@
 // Times alone: the edges of a window, and a stage's time from the times of its clauses.
-use model::Edge;
-use model::NormType;
-use model::Stage;
-use model::Time;
-use model::Times;
+use meaning::Edge;
+use meaning::NormType;
+use meaning::Stage;
+use meaning::Time;
+use meaning::Times;
 ghost use mathlib.Core.Path.{_≡_};
 ghost use Prim.Native.Nat.{_+_, _-_};
-ghost use Rattle.model.specs.Time.{laterOf, before};
-ghost use Rattle.model.specs.Meaning.{fromEdge, beforeEdge, reached, andOf, orOf, exceptOf, stageFrom};
+ghost use Rattle.meaning.specs.Time.{laterOf, before};
+ghost use Rattle.meaning.specs.Meaning.{fromEdge, beforeEdge, reached, andOf, orOf, exceptOf, stageFrom};
 ghost use Rattle.times.specs.Parts.{detachPart, consequentPart, consequentParts};
 
 // The last minute that a time can have.

@@ -4,8 +4,8 @@ use native.Mathlib.Omega.{arith}
 use mathlib.Core.Path.{sym, _∙_}
 use borrow.Author.Needs.{needs}
 use lib.ListN.{length}
-use Rattle.model.specs.Bytes.{byteAt}
-use Rattle.model.specs.Grammar.{fileOf}
+use Rattle.format.specs.Bytes.{byteAt}
+use Rattle.format.specs.Grammar.{fileOf}
 use Rattle.terms.proofs.Steps.{type-here}
 use Rattle.evaluate.proofs.norm_type.Statement.{statement}
 use Rattle.evaluate.proofs.norm_type.Tie as tie

@@ -2,8 +2,8 @@
 use mathlib.Core.Option.{bind}
 use borrow.Author.Needs.{needs}
 use borrow.Author.Tests.{ne-eqb}
-use Rattle.model.specs.Bytes.{byteAt}
-use Rattle.model.specs.Fields.{boundOf}
+use Rattle.format.specs.Bytes.{byteAt}
+use Rattle.format.specs.Fields.{boundOf}
 use Rattle.fields.proofs.bound_at.Statement.{statement}
 use Rattle.fields.proofs.bound_at.Tie as tie
 

@@ -1,9 +1,9 @@
 -- `bound_wrong` meets its contract: each answer by the sign and the tests before it. Assumes nothing.
 use borrow.Author.Needs.{needs}
 use borrow.Author.Tests.{eq-eqb, ne-eqb}
-use Rattle.model.specs.Bytes.{byteAt}
-use Rattle.model.specs.Fields.{notZero, offsetLimit, boundWrong}
-use Rattle.model.proofs.PlaceLaws.{event-bound-wrong, no-bound-wrong}
+use Rattle.format.specs.Bytes.{byteAt}
+use Rattle.format.specs.Fields.{notZero, offsetLimit, boundWrong}
+use Rattle.format.proofs.PlaceLaws.{event-bound-wrong, no-bound-wrong}
 use Rattle.fields.proofs.bound_wrong.Statement.{statement}
 use Rattle.fields.proofs.bound_wrong.Tie as tie
 

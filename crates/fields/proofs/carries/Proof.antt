@@ -1,7 +1,7 @@
 -- `carries` meets its contract: a bit as the model tests it, and none past the mask. Assumes nothing.
 use mathlib.Core.Path.{sym}
 use borrow.Author.Needs.{needs}
-use Rattle.model.proofs.MaskLaws.{carries-bit, carries-high}
+use Rattle.meaning.proofs.MaskLaws.{carries-bit, carries-high}
 use Rattle.fields.proofs.carries.Statement.{statement}
 use Rattle.fields.proofs.carries.Tie as tie
 

@@ -1,7 +1,7 @@
 -- `event_of` meets its contract: a kind, or what the stage's constructor answers. Assumes nothing.
 use borrow.Author.Needs.{needs}
 use borrow.Author.Tests.{eq-eqb, ne-eqb}
-use Rattle.model.specs.Fields.{eventOf, stageEvent}
+use Rattle.format.specs.Fields.{eventOf, stageEvent}
 use Rattle.fields.proofs.event_of.Statement.{statement}
 use Rattle.fields.proofs.event_of.Tie as tie
 

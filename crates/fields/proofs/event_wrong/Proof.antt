@@ -1,6 +1,6 @@
 -- `event_wrong` meets its contract: each answer by what the form names. Assumes nothing.
 use borrow.Author.Needs.{needs}
-use Rattle.model.proofs.FieldLaws.{event-wrong-as}
+use Rattle.format.proofs.FieldLaws.{event-wrong-as}
 use Rattle.fields.proofs.event_wrong.Statement.{statement}
 use Rattle.fields.proofs.event_wrong.Tie as tie
 

@@ -1,8 +1,8 @@
 -- `expression_at` meets its contract: one step for each answer. Assumes nothing.
 use native.Mathlib.Omega.{arith}
 use borrow.Author.Needs.{needs}
-use Rattle.model.proofs.PlaceLaws.{byte-inside}
-use Rattle.model.proofs.ExprLaws.{expr-leaf, expr-always}
+use Rattle.format.proofs.PlaceLaws.{byte-inside}
+use Rattle.format.proofs.ExprLaws.{expr-leaf, expr-always}
 use Rattle.fields.proofs.Expressions.{no-items, no-kind, no-body, operands-as}
 use Rattle.fields.proofs.expression_at.Statement.{statement}
 use Rattle.fields.proofs.expression_at.Tie as tie

@@ -3,8 +3,8 @@ use Prim.Native.Nat.{_+_}
 use native.Mathlib.Omega.{arith}
 use borrow.Author.Needs.{needs}
 use borrow.Author.Tests.{eq-eqb, ne-eqb, lt-ltb, le-ltb, le-leb, lt-leb, not-true, not-false}
-use Rattle.model.specs.Bytes.{byteAt}
-use Rattle.model.proofs.KindLaws.{head-wrong-here}
+use Rattle.format.specs.Bytes.{byteAt}
+use Rattle.format.proofs.KindLaws.{head-wrong-here}
 use Rattle.fields.proofs.head_wrong.Statement.{statement}
 use Rattle.fields.proofs.head_wrong.Tie as tie
 

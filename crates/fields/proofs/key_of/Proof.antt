@@ -2,8 +2,8 @@
 use native.Mathlib.Omega.{arith}
 use mathlib.Core.Path.{sym}
 use borrow.Author.Needs.{needs}
-use Rattle.model.specs.Bytes.{byteAt}
-use Rattle.model.proofs.KindLaws.{kind-here, key-here, mask-past}
+use Rattle.format.specs.Bytes.{byteAt}
+use Rattle.format.proofs.KindLaws.{kind-here, key-here, mask-past}
 use Rattle.fields.proofs.key_of.Statement.{statement}
 use Rattle.fields.proofs.key_of.Tie as tie
 

@@ -3,8 +3,8 @@ use Prim.Native.Nat.{_+_, _*_}
 use native.Mathlib.Omega.{arith}
 use borrow.Author.Needs.{needs}
 use borrow.Author.Tests.{eq-eqb, ne-eqb}
-use Rattle.model.specs.Bytes.{byteAt}
-use Rattle.model.proofs.KindLaws.{kind-wrong-here}
+use Rattle.format.specs.Bytes.{byteAt}
+use Rattle.format.proofs.KindLaws.{kind-wrong-here}
 use Rattle.fields.proofs.kind_wrong.Statement.{statement}
 use Rattle.fields.proofs.kind_wrong.Tie as tie
 

@@ -1,7 +1,7 @@
 -- `leaf_at` meets its contract: each answer by what is read so far. Assumes nothing.
 use borrow.Author.Needs.{needs}
-use Rattle.model.specs.Bytes.{byteAt}
-use Rattle.model.proofs.PlaceLaws.{leaf-here}
+use Rattle.format.specs.Bytes.{byteAt}
+use Rattle.format.proofs.PlaceLaws.{leaf-here}
 use Rattle.fields.proofs.leaf_at.Statement.{statement}
 use Rattle.fields.proofs.leaf_at.Tie as tie
 

@@ -1,8 +1,8 @@
 -- `leaf_wrong` meets its contract: each answer by the tests before it. Assumes nothing.
 use borrow.Author.Needs.{needs}
 use borrow.Author.Tests.{eq-eqb, ne-eqb}
-use Rattle.model.specs.Bytes.{byteAt}
-use Rattle.model.proofs.PlaceLaws.{leaf-wrong-here}
+use Rattle.format.specs.Bytes.{byteAt}
+use Rattle.format.proofs.PlaceLaws.{leaf-wrong-here}
 use Rattle.fields.proofs.leaf_wrong.Statement.{statement}
 use Rattle.fields.proofs.leaf_wrong.Tie as tie
 

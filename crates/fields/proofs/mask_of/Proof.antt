@@ -2,7 +2,7 @@
 use native.Mathlib.Omega.{arith}
 use mathlib.Core.Path.{sym, _∙_}
 use borrow.Author.Needs.{needs}
-use Rattle.model.proofs.KindLaws.{kind-here, mask-here, mask-past}
+use Rattle.format.proofs.KindLaws.{kind-here, mask-here, mask-past}
 use Rattle.fields.proofs.mask_of.Statement.{statement}
 use Rattle.fields.proofs.mask_of.Tie as tie
 

@@ -1,6 +1,6 @@
 -- `no_leaf` meets its contract. Assumes nothing.
 use mathlib.Core.Path.{refl}
-use Rattle.model.specs.Fields.{neither}
+use Rattle.format.specs.Fields.{neither}
 use Rattle.fields.proofs.no_leaf.Statement.{statement}
 use Rattle.fields.proofs.no_leaf.Tie as tie
 

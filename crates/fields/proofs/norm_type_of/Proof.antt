@@ -1,6 +1,6 @@
 -- `norm_type_of` meets its contract: byte by byte. Assumes nothing.
 use borrow.Author.Tests.{ne-eqb}
-use Rattle.model.specs.Fields.{normTypeOf}
+use Rattle.format.specs.Fields.{normTypeOf}
 use Rattle.fields.proofs.norm_type_of.Statement.{statement}
 use Rattle.fields.proofs.norm_type_of.Tie as tie
 

@@ -4,7 +4,7 @@ use native.Mathlib.Omega.{arith}
 use borrow.Author.Needs.{needs}
 use borrow.Fn.Kinds.{In}
 use borrow.Fn.PlainCycle.{Measures, is, falls, and}
-use Rattle.model.proofs.PlaceLaws.{byte-inside}
+use Rattle.format.proofs.PlaceLaws.{byte-inside}
 use Rattle.grammar.proofs.Steps.{expr-no-items, expr-no-kind, expr-no-leaf, expr-leaf, expr-always, expr-no-first, expr-both, left-falls}
 use Rattle.grammar.proofs.read_expression.Reads as read-expression
 use Rattle.grammar.proofs.read_expression.Kinds as kinds

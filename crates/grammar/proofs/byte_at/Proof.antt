@@ -2,7 +2,7 @@
 use mathlib.Core.Path.{refl, sym}
 use lib.ListN.{List·getD-eq-default}
 use borrow.Author.Needs.{needs}
-use Rattle.model.specs.Bytes.{byteAt}
+use Rattle.format.specs.Bytes.{byteAt}
 use Rattle.grammar.proofs.byte_at.Statement.{statement}
 use Rattle.grammar.proofs.byte_at.Tie as tie
 

@@ -5,9 +5,9 @@ use mathlib.Core.Path.{_≡_, refl, sym}
 use mathlib.Core.List.{List, [], _∷_, _++_}
 use lib.ListN.{length, drop, length-append}
 use borrow.Author.Needs.{needs}
-use Rattle.model.specs.Bytes.{many, item}
-use Rattle.model.specs.Grammar.{kindsLimit, fileOf}
-use Rattle.model.proofs.ReaderLaws.{SoFar, so-far, so-far-step, so-far-none, so-far-full}
+use Rattle.format.specs.Bytes.{many, item}
+use Rattle.format.specs.Grammar.{kindsLimit, fileOf}
+use Rattle.format.proofs.ReaderLaws.{SoFar, so-far, so-far-step, so-far-none, so-far-full}
 use Rattle.grammar.proofs.Steps.{item-ends}
 use Rattle.grammar.proofs.count_kinds.Statement.{statement}
 use Rattle.grammar.proofs.count_kinds.Tie as tie

@@ -1,7 +1,7 @@
 -- `read_clause` meets its contract: a clause is an expression within the grammar's count. Assumes nothing.
 use native.Mathlib.Omega.{arith}
 use borrow.Author.Needs.{needs}
-use Rattle.model.specs.Grammar.{exprLimit, readClause}
+use Rattle.format.specs.Grammar.{exprLimit, readClause}
 use Rattle.grammar.proofs.read_clause.Statement.{statement}
 use Rattle.grammar.proofs.read_clause.Tie as tie
 

@@ -1,8 +1,8 @@
 -- `read_item` meets its contract: one law of an item at a place for each answer. Assumes nothing.
 use native.Mathlib.Omega.{arith}
 use borrow.Author.Needs.{needs}
-use Rattle.model.specs.Bytes.{byteAt}
-use Rattle.model.proofs.PlaceLaws.{item-here, item-past, item-other, item-short}
+use Rattle.format.specs.Bytes.{byteAt}
+use Rattle.format.proofs.PlaceLaws.{item-here, item-past, item-other, item-short}
 use Rattle.grammar.proofs.read_item.Statement.{statement}
 use Rattle.grammar.proofs.read_item.Tie as tie
 

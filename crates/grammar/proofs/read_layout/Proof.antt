@@ -5,9 +5,9 @@ use mathlib.Core.Path.{_≡_, refl, sym}
 use mathlib.Core.List.{List, [], _∷_, _++_}
 use lib.ListN.{length, drop, length-append, length-set}
 use borrow.Author.Needs.{needs}
-use Rattle.model.specs.Bytes.{many, item}
-use Rattle.model.specs.Grammar.{SchemaItems, kindsLimit, schemasLimit, readSchema, fileOf}
-use Rattle.model.proofs.ReaderLaws.{SoFar, so-far, so-far-step, so-far-none, so-far-full}
+use Rattle.format.specs.Bytes.{many, item}
+use Rattle.format.specs.Grammar.{SchemaItems, kindsLimit, schemasLimit, readSchema, fileOf}
+use Rattle.format.proofs.ReaderLaws.{SoFar, so-far, so-far-step, so-far-none, so-far-full}
 use Rattle.grammar.specs.Places.{Starts, LaidOut}
 use Rattle.grammar.proofs.Steps.{starts-step}
 use Rattle.grammar.proofs.read_layout.Statement.{statement}

@@ -1,7 +1,7 @@
 -- `read_schema` meets its contract: its four readings one after another. Assumes nothing.
 use mathlib.Core.Option.{bind}
 use borrow.Author.Needs.{needs}
-use Rattle.model.specs.Grammar.{readSchema}
+use Rattle.format.specs.Grammar.{readSchema}
 use Rattle.grammar.proofs.Steps.{schema-found}
 use Rattle.grammar.proofs.read_schema.Statement.{statement}
 use Rattle.grammar.proofs.read_schema.Tie as tie

@@ -3,8 +3,8 @@ use Prim.Native.Nat.{_+_}
 use native.Mathlib.Omega.{arith}
 use mathlib.Core.Path.{sym}
 use borrow.Author.Needs.{needs}
-use Rattle.model.specs.Bytes.{byteAt}
-use Rattle.model.proofs.PlaceLaws.{number-two}
+use Rattle.format.specs.Bytes.{byteAt}
+use Rattle.format.proofs.PlaceLaws.{number-two}
 use Rattle.grammar.proofs.u16_at.Statement.{statement}
 use Rattle.grammar.proofs.u16_at.Tie as tie
 

@@ -1,8 +1,8 @@
 -- `u32_at` meets its contract. Assumes nothing.
 use native.Mathlib.Omega.{arith}
 use borrow.Author.Needs.{needs}
-use Rattle.model.specs.Bytes.{byteAt}
-use Rattle.model.proofs.PlaceLaws.{number-four}
+use Rattle.format.specs.Bytes.{byteAt}
+use Rattle.format.proofs.PlaceLaws.{number-four}
 use Rattle.grammar.proofs.u32_at.Statement.{statement}
 use Rattle.grammar.proofs.u32_at.Tie as tie
 

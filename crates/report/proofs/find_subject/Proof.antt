@@ -4,10 +4,10 @@ use native.Mathlib.Omega.{arith}
 use mathlib.Core.Path.{_≡_, refl, _∙_}
 use borrow.Author.Needs.{needs}
 use lib.ListN.{length, drop}
-use Rattle.model.specs.Records.{valueWidth, recordsIn}
-use Rattle.model.specs.Rows.{find, isSought, subjectOf}
-use Rattle.model.specs.Calls.{termsOf}
-use Rattle.model.proofs.WalkLaws.{walk-end}
+use Rattle.meaning.specs.Rows.{find, isSought, subjectOf}
+use Rattle.format.specs.Fields.{termsOf}
+use Rattle.format.specs.Records.{valueWidth, recordsIn}
+use Rattle.format.proofs.WalkLaws.{walk-end}
 use Rattle.log.proofs.Steps.{Step, step, stop}
 use Rattle.evaluate.specs.Seen.{logIn, recordIn}
 use Rattle.report.proofs.Sought.{found-here, found-behind}

@@ -2,10 +2,10 @@
 use native.Mathlib.Omega.{arith}
 use mathlib.Core.Path.{_≡_, sym, _∙_}
 use borrow.Author.Needs.{needs}
-use Rattle.model.specs.Terms.{schemaAt}
-use Rattle.model.specs.Bytes.{byteAt}
-use Rattle.model.specs.Records.{recordLength}
-use Rattle.model.specs.Calls.{termsOf}
+use Rattle.meaning.specs.Terms.{schemaAt}
+use Rattle.format.specs.Bytes.{byteAt}
+use Rattle.format.specs.Fields.{termsOf}
+use Rattle.format.specs.Records.{recordLength}
 use Rattle.log.proofs.Checks.{kinds-known}
 use Rattle.log.proofs.Steps.{stands-inside}
 use Rattle.report.proofs.Sought.{sought-other, sought-key, sought-stamp}

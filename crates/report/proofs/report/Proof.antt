@@ -7,9 +7,9 @@ use lib.ListN.{length, take}
 use lib.Seq.{length-take-le}
 use borrow.Author.Needs.{needs}
 use borrow.Author.Tests.{ltb-false}
-use Rattle.model.specs.Records.{valueWidth}
-use Rattle.model.specs.Calls.{Check, refusal, logChecks}
-use Rattle.model.proofs.RefusalLaws.{LogAccepted}
+use Rattle.format.specs.Records.{valueWidth}
+use Rattle.calls.specs.Calls.{Check, refusal, logChecks}
+use Rattle.calls.proofs.RefusalLaws.{LogAccepted}
 use Rattle.grammar.specs.Places.{Placed}
 use Rattle.terms.proofs.Faults.{layout-few, layout-placed}
 use Rattle.log.proofs.Checks.{used-inside, log-kept}

@@ -6,9 +6,10 @@ use mathlib.Core.List.{List, _++_}
 use borrow.Author.Needs.{needs}
 use lib.ListN.{length, take}
 use lib.Seq.{length-take-le}
-use Rattle.model.specs.Records.{valueWidth}
-use Rattle.model.specs.Calls.{Check, refusal, logChecks, termsOf}
-use Rattle.model.proofs.RefusalLaws.{LogAccepted}
+use Rattle.format.specs.Fields.{termsOf}
+use Rattle.format.specs.Records.{valueWidth}
+use Rattle.calls.specs.Calls.{Check, refusal, logChecks}
+use Rattle.calls.proofs.RefusalLaws.{LogAccepted}
 use Rattle.grammar.specs.Places.{Placed}
 use Rattle.terms.proofs.Faults.{layout-few, layout-placed, schemas-count}
 use Rattle.log.proofs.Checks.{used-inside, log-kept}

@@ -1,7 +1,7 @@
 -- `agreements_check_terms` meets its contract: the answer of call 1, in one number. Assumes nothing.
 use mathlib.Core.Path.{ap, _∙_}
 use borrow.Author.Needs.{needs}
-use Rattle.model.specs.Answers.{packed}
+use Rattle.calls.specs.Answers.{packed}
 use Rattle.service.proofs.agreements_check_terms.Statement.{statement}
 use Rattle.service.proofs.agreements_check_terms.Tie as tie
 

@@ -1,7 +1,7 @@
 -- `pack` meets its contract: it is what the definition says. Assumes nothing.
 use mathlib.Core.Path.{refl}
 use borrow.Author.Needs.{needs}
-use Rattle.model.specs.Answers.{packed}
+use Rattle.calls.specs.Answers.{packed}
 use Rattle.service.proofs.pack.Statement.{statement}
 use Rattle.service.proofs.pack.Tie as tie
 

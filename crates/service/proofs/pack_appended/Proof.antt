@@ -1,6 +1,6 @@
 -- `pack_appended` meets its contract: case by case, number and length. Assumes nothing.
 use borrow.Author.Needs.{needs}
-use Rattle.model.specs.Answers.{appendedAnswer}
+use Rattle.calls.specs.Answers.{appendedAnswer}
 use Rattle.service.proofs.pack_appended.Statement.{statement}
 use Rattle.service.proofs.pack_appended.Tie as tie
 

@@ -1,6 +1,6 @@
 -- `pack_checked` meets its contract: case by case, number and 0. Assumes nothing.
 use borrow.Author.Needs.{needs}
-use Rattle.model.specs.Answers.{checkedAnswer}
+use Rattle.calls.specs.Answers.{checkedAnswer}
 use Rattle.service.proofs.pack_checked.Statement.{statement}
 use Rattle.service.proofs.pack_checked.Tie as tie
 

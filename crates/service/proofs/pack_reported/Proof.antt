@@ -1,6 +1,6 @@
 -- `pack_reported` meets its contract: case by case, number and count. Assumes nothing.
 use borrow.Author.Needs.{needs}
-use Rattle.model.specs.Answers.{reportedAnswer}
+use Rattle.calls.specs.Answers.{reportedAnswer}
 use Rattle.service.proofs.pack_reported.Statement.{statement}
 use Rattle.service.proofs.pack_reported.Tie as tie
 

@@ -6,7 +6,7 @@ use lib.ListN.{length}
 use borrow.Author.Needs.{needs}
 use borrow.Fn.Kinds.{In}
 use borrow.Fn.PlainCycle.{Measures, is, falls, and}
-use Rattle.model.specs.Bytes.{byteAt}
+use Rattle.format.specs.Bytes.{byteAt}
 use Rattle.terms.proofs.Clauses.{stands-here, stands-leaf, leaf-found, leaf-past, always-past, stands-first, stands-second, first-found, first-falls, second-walks}
 use Rattle.terms.proofs.expression_has.Reads as expression-has
 use Rattle.terms.proofs.expression_has.Kinds as kinds

@@ -1,8 +1,8 @@
 -- `bound_has` meets its contract. Assumes nothing.
 use borrow.Author.Needs.{needs}
-use Rattle.model.specs.Lists.{anyOf}
-use Rattle.model.specs.Terms.{boundEvents}
-use Rattle.model.proofs.ListLaws.{any-one}
+use Rattle.meaning.specs.Lists.{anyOf}
+use Rattle.meaning.specs.Terms.{boundEvents}
+use Rattle.meaning.proofs.ListLaws.{any-one}
 use Rattle.terms.proofs.bound_has.Statement.{statement}
 use Rattle.terms.proofs.bound_has.Tie as tie
 

@@ -7,10 +7,10 @@ use lib.ListN.{length}
 use lib.Seq.{length-take-le}
 use borrow.Author.Needs.{needs}
 use borrow.Author.Tests.{lt-ltb, le-ltb}
-use Rattle.model.specs.Grammar.{fileOf, breaksGrammar}
-use Rattle.model.specs.Fields.{fieldWrong, citationWrong}
-use Rattle.model.specs.Answers.{checkedAnswer}
-use Rattle.model.specs.Calls.{refusal, termsLimit, termsOf, termsTooLong, termsChecks, checked, checkTerms}
+use Rattle.format.specs.Grammar.{fileOf, breaksGrammar}
+use Rattle.format.specs.Fields.{fieldWrong, citationWrong, termsOf}
+use Rattle.calls.specs.Answers.{checkedAnswer}
+use Rattle.calls.specs.Calls.{refusal, termsLimit, termsTooLong, termsChecks, checked, checkTerms}
 use Rattle.terms.proofs.Faults.{citation-faults, unshared-faults, layout-few, layout-placed}
 use Rattle.terms.proofs.check_terms_under.Statement.{statement}
 use Rattle.terms.proofs.check_terms_under.Tie as tie

@@ -1,6 +1,6 @@
 -- `cites_from` meets its contract. Assumes nothing.
 use borrow.Author.Needs.{needs}
-use Rattle.model.specs.Fields.{citesFrom}
+use Rattle.format.specs.Fields.{citesFrom}
 use Rattle.terms.proofs.cites_from.Statement.{statement}
 use Rattle.terms.proofs.cites_from.Tie as tie
 

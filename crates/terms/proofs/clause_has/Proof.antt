@@ -1,7 +1,7 @@
 -- `clause_has` meets its contract: a clause is an expression within the grammar's count. Assumes nothing.
 use mathlib.Core.Path.{sym}
 use borrow.Author.Needs.{needs}
-use Rattle.model.specs.Grammar.{exprLimit, readClause}
+use Rattle.format.specs.Grammar.{exprLimit, readClause}
 use Rattle.terms.proofs.clause_has.Statement.{statement}
 use Rattle.terms.proofs.clause_has.Tie as tie
 

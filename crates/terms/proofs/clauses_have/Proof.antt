@@ -3,7 +3,7 @@ use native.Mathlib.Omega.{arith}
 use mathlib.Core.Path.{_≡_, sym, _∙_}
 use lib.ListN.{getD}
 use borrow.Author.Needs.{needs}
-use Rattle.model.specs.Grammar.{SchemaItems, fileOf}
+use Rattle.format.specs.Grammar.{SchemaItems, fileOf}
 use Rattle.grammar.specs.Places.{noItems}
 use Rattle.terms.specs.Questions.{clauseHas, clausesHave}
 use Rattle.terms.proofs.clauses_have.Statement.{statement}

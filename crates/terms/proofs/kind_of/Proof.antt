@@ -1,6 +1,6 @@
 -- `kind_of` meets its contract. Assumes nothing.
 use borrow.Author.Needs.{needs}
-use Rattle.model.specs.Terms.{kindOf}
+use Rattle.meaning.specs.Terms.{kindOf}
 use Rattle.terms.proofs.kind_of.Statement.{statement}
 use Rattle.terms.proofs.kind_of.Tie as tie
 

@@ -1,8 +1,8 @@
 -- `leaf_has` meets its contract. Assumes nothing.
 use mathlib.Core.Path.{sym, _∙_}
 use borrow.Author.Needs.{needs}
-use Rattle.model.specs.Calls.{termsOf}
-use Rattle.model.proofs.KindLaws.{kinds-count}
+use Rattle.format.specs.Fields.{termsOf}
+use Rattle.format.proofs.KindLaws.{kinds-count}
 use Rattle.terms.specs.Questions.{askedOfLeaf}
 use Rattle.terms.proofs.leaf_has.Statement.{statement}
 use Rattle.terms.proofs.leaf_has.Tie as tie

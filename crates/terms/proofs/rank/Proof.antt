@@ -1,6 +1,6 @@
 -- `rank` meets its contract. Assumes nothing.
 use borrow.Author.Needs.{needs}
-use Rattle.model.specs.Terms.{rank}
+use Rattle.meaning.specs.Terms.{rank}
 use Rattle.terms.proofs.rank.Statement.{statement}
 use Rattle.terms.proofs.rank.Tie as tie
 

@@ -3,9 +3,8 @@ use native.Mathlib.Omega.{arith}
 use mathlib.Core.Path.{_≡_, sym, _∙_}
 use lib.ListN.{getD}
 use borrow.Author.Needs.{needs}
-use Rattle.model.specs.Grammar.{fileOf}
-use Rattle.model.specs.Fields.{headWrong}
-use Rattle.model.specs.Calls.{termsOf}
+use Rattle.format.specs.Grammar.{fileOf}
+use Rattle.format.specs.Fields.{headWrong, termsOf}
 use Rattle.grammar.specs.Places.{noItems}
 use Rattle.terms.proofs.Faults.{field-here}
 use Rattle.terms.proofs.schema_wrong.Statement.{statement}

@@ -1,8 +1,8 @@
 -- `shares_none` meets its contract. Assumes nothing.
 use native.Mathlib.Omega.{arith}
 use borrow.Author.Needs.{needs}
-use Rattle.model.specs.Fields.{sharesNone}
-use Rattle.model.proofs.MaskLaws.{unshared-and}
+use Rattle.format.specs.Fields.{sharesNone}
+use Rattle.meaning.proofs.MaskLaws.{unshared-and}
 use Rattle.terms.proofs.shares_none.Statement.{statement}
 use Rattle.terms.proofs.shares_none.Tie as tie
 

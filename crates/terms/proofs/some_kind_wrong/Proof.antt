@@ -5,9 +5,9 @@ use mathlib.Core.Path.{_≡_, ap, sym, _∙_}
 use mathlib.Core.Bool.{Bool}
 use mathlib.Core.List.{List, []}
 use lib.ListN.{length, getD, take, drop}
-use Rattle.model.specs.Grammar.{fileOf}
-use Rattle.model.specs.Fields.{kindWrong, kindsWrong}
-use Rattle.model.proofs.KindLaws.{kind-here}
+use Rattle.format.specs.Grammar.{fileOf}
+use Rattle.format.specs.Fields.{kindWrong, kindsWrong}
+use Rattle.format.proofs.KindLaws.{kind-here}
 use Rattle.terms.proofs.Steps.{Left, left-start, left-found, left-next, left-end}
 use Rattle.terms.proofs.some_kind_wrong.Statement.{statement}
 use Rattle.terms.proofs.some_kind_wrong.Tie as tie

@@ -3,8 +3,8 @@ use Prim.Native.Nat.{_<_}
 use native.Mathlib.Omega.{arith}
 use mathlib.Core.Path.{sym}
 use lib.ListN.{length}
-use Rattle.model.specs.Bytes.{byteAt}
-use Rattle.model.specs.Grammar.{fileOf}
+use Rattle.format.specs.Bytes.{byteAt}
+use Rattle.format.specs.Grammar.{fileOf}
 use Rattle.terms.proofs.Steps.{subject-here, subject-past}
 use Rattle.terms.proofs.subject_of.Statement.{statement}
 use Rattle.terms.proofs.subject_of.Tie as tie

@@ -1,6 +1,6 @@
 -- `and_of` meets its contract: time by time. Assumes nothing.
 use borrow.Author.Needs.{needs}
-use Rattle.model.specs.Meaning.{andOf}
+use Rattle.meaning.specs.Meaning.{andOf}
 use Rattle.times.proofs.and_of.Statement.{statement}
 use Rattle.times.proofs.and_of.Tie as tie
 

@@ -1,7 +1,7 @@
 -- `before` meets its contract: a minute before the moment stays, any other is none. Assumes nothing.
 use borrow.Author.Needs.{needs}
 use borrow.Author.Tests.{lt-ltb, le-ltb}
-use Rattle.model.specs.Time.{before}
+use Rattle.meaning.specs.Time.{before}
 use Rattle.times.proofs.before.Statement.{statement}
 use Rattle.times.proofs.before.Tie as tie
 

@@ -1,8 +1,8 @@
 -- `before_edge` meets its contract: each answer as the edge and the time are told. Assumes nothing.
 use borrow.Author.Needs.{needs}
 use borrow.Author.Tests.{lt-ltb, le-ltb}
-use Rattle.model.specs.Time.{before}
-use Rattle.model.specs.Meaning.{beforeEdge}
+use Rattle.meaning.specs.Time.{before}
+use Rattle.meaning.specs.Meaning.{beforeEdge}
 use Rattle.times.proofs.before_edge.Statement.{statement}
 use Rattle.times.proofs.before_edge.Tie as tie
 

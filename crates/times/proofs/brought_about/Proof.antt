@@ -1,6 +1,6 @@
 -- `brought_about` meets its contract: stage by stage. Assumes nothing.
 use borrow.Author.Needs.{needs}
-use Rattle.model.specs.Meaning.{stageFrom}
+use Rattle.meaning.specs.Meaning.{stageFrom}
 use Rattle.times.proofs.brought_about.Statement.{statement}
 use Rattle.times.proofs.brought_about.Tie as tie
 

@@ -1,6 +1,6 @@
 -- `except_of` meets its contract: time by time. Assumes nothing.
 use borrow.Author.Needs.{needs}
-use Rattle.model.specs.Meaning.{exceptOf}
+use Rattle.meaning.specs.Meaning.{exceptOf}
 use Rattle.times.proofs.except_of.Statement.{statement}
 use Rattle.times.proofs.except_of.Tie as tie
 

@@ -1,8 +1,8 @@
 -- `from_edge` meets its contract: each answer as the edge and the time are told. Assumes nothing.
 use borrow.Author.Needs.{needs}
 use borrow.Author.Tests.{le-leb, lt-leb}
-use Rattle.model.specs.Time.{from}
-use Rattle.model.specs.Meaning.{fromEdge}
+use Rattle.meaning.specs.Time.{from}
+use Rattle.meaning.specs.Meaning.{fromEdge}
 use Rattle.times.proofs.from_edge.Statement.{statement}
 use Rattle.times.proofs.from_edge.Tie as tie
 

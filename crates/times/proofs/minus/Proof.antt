@@ -2,7 +2,7 @@
 use native.Mathlib.Omega.{arith}
 use mathlib.Core.Path.{ap}
 use borrow.Author.Needs.{needs}
-use Rattle.model.specs.declared.Edge.the-variants.{Minute}
+use Rattle.meaning.specs.declared.Edge.the-variants.{Minute}
 use Rattle.times.proofs.minus.Statement.{statement}
 use Rattle.times.proofs.minus.Tie as tie
 

@@ -1,6 +1,6 @@
 -- `or_of` meets its contract: time by time. Assumes nothing.
 use borrow.Author.Needs.{needs}
-use Rattle.model.specs.Meaning.{orOf}
+use Rattle.meaning.specs.Meaning.{orOf}
 use Rattle.times.proofs.or_of.Statement.{statement}
 use Rattle.times.proofs.or_of.Tie as tie
 

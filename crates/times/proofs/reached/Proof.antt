@@ -1,8 +1,8 @@
 -- `reached` meets its contract: each answer as the edge is told. Assumes nothing.
 use borrow.Author.Needs.{needs}
 use borrow.Author.Tests.{le-leb, lt-leb}
-use Rattle.model.specs.Time.{cut, lastMinute}
-use Rattle.model.specs.Meaning.{reached}
+use Rattle.meaning.specs.Time.{cut, lastMinute}
+use Rattle.meaning.specs.Meaning.{reached}
 use Rattle.times.proofs.reached.Statement.{statement}
 use Rattle.times.proofs.reached.Tie as tie
 

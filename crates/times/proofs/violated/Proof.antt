@@ -1,6 +1,6 @@
 -- `violated` meets its contract: type by type. Assumes nothing.
 use borrow.Author.Needs.{needs}
-use Rattle.model.specs.Meaning.{stageFrom}
+use Rattle.meaning.specs.Meaning.{stageFrom}
 use Rattle.times.proofs.StageLaws.{violated-unmet, violated-done}
 use Rattle.times.proofs.violated.Statement.{statement}
 use Rattle.times.proofs.violated.Tie as tie

@@ -4,8 +4,8 @@ use native.Mathlib.Omega.{arith}
 use mathlib.Core.Path.{_≡_}
 use lib.ListN.{length}
 use borrow.Author.Needs.{needs}
-use Rattle.model.specs.Grammar.{exprLimit}
-use Rattle.model.specs.Calls.{termsOf}
+use Rattle.format.specs.Grammar.{exprLimit}
+use Rattle.format.specs.Fields.{termsOf}
 use Rattle.log.specs.Holds.{Stands}
 use Rattle.times.specs.declared.Part.{Part}
 use Rattle.times.specs.Parts.{partOf}

@@ -6,9 +6,9 @@ use mathlib.Core.Logic.{inl, inr}
 use borrow.Author.Needs.{needs}
 use borrow.Author.Tests.{not-false}
 use lib.ListN.{length, getD, take, drop}
-use Rattle.model.specs.Calls.{termsOf}
-use Rattle.model.proofs.Time.earlier_of.Reads as earlier-of
-use Rattle.model.proofs.KindLaws.{kinds-count}
+use Rattle.format.specs.Fields.{termsOf}
+use Rattle.meaning.proofs.Time.earlier_of.Reads as earlier-of
+use Rattle.format.proofs.KindLaws.{kinds-count}
 use Rattle.terms.proofs.kind_of.Reads as kind-of
 use Rattle.log.specs.Holds.{Stands}
 use Rattle.log.specs.Listed.{Lists}

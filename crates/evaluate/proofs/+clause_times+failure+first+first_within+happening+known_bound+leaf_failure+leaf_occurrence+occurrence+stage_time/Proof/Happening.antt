@@ -3,7 +3,7 @@ use Prim.Native.Nat.{ℕ}
 use native.Mathlib.Omega.{arith}
 use borrow.Author.Needs.{needs}
 use borrow.Author.Tests.{not-true, not-false}
-use Rattle.model.proofs.Equation.{rank-least}
+use Rattle.meaning.proofs.Equation.{rank-least}
 use Rattle.terms.proofs.rank.Reads as rank
 use Rattle.log.proofs.stamp_at.Reads as stamp-at
 use Rattle.log.proofs.Steps.{stands-stamped}

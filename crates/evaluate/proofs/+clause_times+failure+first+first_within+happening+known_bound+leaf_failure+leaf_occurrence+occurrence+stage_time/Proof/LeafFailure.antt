@@ -2,7 +2,7 @@
 use Prim.Native.Nat.{ℕ}
 use native.Mathlib.Omega.{arith}
 use borrow.Author.Needs.{needs}
-use Rattle.model.proofs.Time.later_of.Reads as later-of
+use Rattle.meaning.proofs.Time.later_of.Reads as later-of
 use Rattle.times.proofs.reached.Reads as reached
 use Rattle.evaluate.proofs.Leaves.{fails-no-upper, fails-unreached, fails-empty, fails-no-lower, fails-met, fails-missed}
 use Rattle.evaluate.proofs.first_within.Reads as first-within

@@ -1,7 +1,7 @@
 -- `leaf_occurrence` meets its contract, its calls within the cycle being smaller. Assumes nothing.
 use Prim.Native.Nat.{ℕ}
 use borrow.Author.Needs.{needs}
-use Rattle.model.proofs.Time.later_of.Reads as later-of
+use Rattle.meaning.proofs.Time.later_of.Reads as later-of
 use Rattle.evaluate.proofs.Leaves.{occurs-no-lower, occurs-no-upper, occurs}
 use Rattle.evaluate.proofs.first_within.Reads as first-within
 use Rattle.evaluate.proofs.known_bound.Reads as known-bound

@@ -3,7 +3,7 @@
 use Prim.Native.Nat.{ℕ, _+_, _*_, _<_}
 use borrow.Fn.Kinds.{In}
 use borrow.Fn.PlainCycle.{Measures, is, falls, and}
-use Rattle.model.specs.Terms.{rank}
+use Rattle.meaning.specs.Terms.{rank}
 use Rattle.times.specs.declared.Part.{Part}
 use Rattle.times.specs.declared.Part.the-variants.{Neither, Occurrence, Failure, Both}
 use Rattle.evaluate.proofs.clause_times.Reads as clause-times

@@ -4,11 +4,11 @@ use native.Mathlib.Omega.{arith}
 use mathlib.Core.Path.{_≡_}
 use lib.ListN.{length}
 use borrow.Author.Needs.{needs}
-use Rattle.model.specs.Meaning.{andOf, orOf, exceptOf}
-use Rattle.model.specs.Grammar.{exprLimit}
-use Rattle.model.specs.Calls.{termsOf}
-use Rattle.model.proofs.Time.earlier_of.Reads as earlier-of
-use Rattle.model.proofs.Time.later_of.Reads as later-of
+use Rattle.meaning.specs.Meaning.{andOf, orOf, exceptOf}
+use Rattle.format.specs.Grammar.{exprLimit}
+use Rattle.format.specs.Fields.{termsOf}
+use Rattle.meaning.proofs.Time.earlier_of.Reads as earlier-of
+use Rattle.meaning.proofs.Time.later_of.Reads as later-of
 use Rattle.log.specs.Holds.{Stands}
 use Rattle.fields.specs.declared.Expression.{Expression}
 use Rattle.fields.specs.Decoded.{ExpressionAt}

@@ -3,10 +3,10 @@
 use Prim.Native.Nat.{ℕ, _+_, _*_, _≤_, _<_}
 use native.Mathlib.Omega.{arith}
 use borrow.Author.Needs.{needs}
-use Rattle.model.specs.declared.Stage.{Stage}
-use Rattle.model.specs.declared.Stage.the-variants.{Created, Detached, Expired, Discharged, Violated}
-use Rattle.model.specs.declared.NormType.{NormType}
-use Rattle.model.specs.Terms.{rank}
+use Rattle.meaning.specs.declared.Stage.{Stage}
+use Rattle.meaning.specs.declared.Stage.the-variants.{Created, Detached, Expired, Discharged, Violated}
+use Rattle.meaning.specs.declared.NormType.{NormType}
+use Rattle.meaning.specs.Terms.{rank}
 use Rattle.log.proofs.stamp_at.Reads as stamp-at
 use Rattle.times.specs.declared.Part.{Part}
 use Rattle.times.specs.declared.Part.the-variants.{Neither, Occurrence, Failure, Both}

@@ -4,9 +4,9 @@ use native.Mathlib.Omega.{arith}
 use mathlib.Core.Path.{_≡_, refl, sym, _∙_}
 use mathlib.Core.Bool.{true}
 use borrow.Author.Needs.{needs}
-use Rattle.model.specs.Log.{attributes, place, bothCarry}
-use Rattle.model.specs.Bytes.{byteAt}
-use Rattle.model.proofs.MaskLaws.{place-le}
+use Rattle.meaning.specs.Log.{attributes, place, bothCarry}
+use Rattle.format.specs.Bytes.{byteAt}
+use Rattle.meaning.proofs.MaskLaws.{place-le}
 use Rattle.log.proofs.Apart.{both-carry, each-carries}
 use Rattle.log.proofs.Steps.{stands-inside, stands-whole}
 use Rattle.evaluate.specs.Seen.{recordIn}

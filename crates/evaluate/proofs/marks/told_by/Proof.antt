@@ -6,7 +6,7 @@ use mathlib.Core.Bool.{true≢false}
 use borrow.Author.Needs.{needs}
 use borrow.Author.Tests.{eq-eqb, not-true}
 use lib.ListN.{length}
-use Rattle.model.specs.Bytes.{byteAt}
+use Rattle.format.specs.Bytes.{byteAt}
 use Rattle.evaluate.specs.Marks.{Marks, Told}
 use Rattle.evaluate.proofs.Marked.{mark-inside, mark-tells}
 use Rattle.evaluate.proofs.marks.told_by.Statement.{statement}

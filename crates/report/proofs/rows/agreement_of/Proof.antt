@@ -5,9 +5,9 @@ use mathlib.Core.Path.{_≡_, sym}
 use mathlib.Core.Bool.{true}
 use lib.ListN.{length}
 use borrow.Author.Needs.{needs}
-use Rattle.model.specs.Log.{carries, carried}
-use Rattle.model.specs.Bytes.{byteAt}
-use Rattle.model.specs.Records.{valueWidth}
+use Rattle.meaning.specs.Log.{carries, carried}
+use Rattle.format.specs.Bytes.{byteAt}
+use Rattle.format.specs.Records.{valueWidth}
 use Rattle.terms.proofs.Faults.{placed-few}
 use Rattle.log.proofs.Checks.{kinds-known}
 use Rattle.log.proofs.Steps.{stands-inside}

@@ -5,14 +5,14 @@ use mathlib.Core.Path.{_≡_, ap, sym, _∙_}
 use mathlib.Core.List.{List}
 use borrow.Author.Needs.{needs}
 use lib.ListN.{length, length-append}
-use Rattle.model.specs.declared.Time.{Time}
-use Rattle.model.specs.declared.Stage.the-variants.{Created, Detached, Expired, Discharged, Violated}
-use Rattle.model.specs.declared.Entries.{Entries}
-use Rattle.model.specs.declared.Row.{Row}
-use Rattle.model.specs.Terms.{schemaAt}
-use Rattle.model.specs.Bytes.{byteAt}
-use Rattle.model.specs.Rows.{rowOf, rowAt}
-use Rattle.model.specs.Calls.{termsOf}
+use Rattle.meaning.specs.declared.Time.{Time}
+use Rattle.meaning.specs.declared.Stage.the-variants.{Created, Detached, Expired, Discharged, Violated}
+use Rattle.meaning.specs.declared.Entries.{Entries}
+use Rattle.meaning.specs.declared.Row.{Row}
+use Rattle.meaning.specs.Terms.{schemaAt}
+use Rattle.meaning.specs.Rows.{rowOf, rowAt}
+use Rattle.format.specs.Bytes.{byteAt}
+use Rattle.format.specs.Fields.{termsOf}
 use Rattle.log.proofs.Steps.{stands-inside}
 use Rattle.evaluate.specs.Seen.{recordIn}
 use Rattle.report.specs.Shown.{entriesIn, recordRows}

@@ -5,9 +5,9 @@ use native.Mathlib.Omega.{arith}
 use mathlib.Core.Path.{_≡_, ap}
 use borrow.Author.Needs.{needs}
 use lib.ListN.{length, length-append}
-use Rattle.model.specs.Records.{valueWidth}
-use Rattle.model.specs.Calls.{termsOf}
-use Rattle.model.proofs.WalkLaws.{walk-end}
+use Rattle.format.specs.Fields.{termsOf}
+use Rattle.format.specs.Records.{valueWidth}
+use Rattle.format.proofs.WalkLaws.{walk-end}
 use Rattle.log.proofs.Steps.{Step, step, stop}
 use Rattle.report.specs.Shown.{rowsFrom}
 use Rattle.report.proofs.RowSteps.{rows-step, rows-none}

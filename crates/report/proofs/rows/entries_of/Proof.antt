@@ -2,12 +2,12 @@
 use native.Mathlib.Omega.{arith}
 use mathlib.Core.Path.{_≡_}
 use borrow.Author.Needs.{needs}
-use Rattle.model.specs.declared.Time.{Time}
-use Rattle.model.specs.declared.Time.the-variants.{At}
-use Rattle.model.specs.declared.Stage.{Stage}
-use Rattle.model.specs.declared.Stage.the-variants.{Created, Detached, Expired, Discharged, Violated}
-use Rattle.model.specs.Time.{laterOf, before}
-use Rattle.model.specs.Meaning.{stageFrom}
+use Rattle.meaning.specs.declared.Time.{Time}
+use Rattle.meaning.specs.declared.Time.the-variants.{At}
+use Rattle.meaning.specs.declared.Stage.{Stage}
+use Rattle.meaning.specs.declared.Stage.the-variants.{Created, Detached, Expired, Discharged, Violated}
+use Rattle.meaning.specs.Time.{laterOf, before}
+use Rattle.meaning.specs.Meaning.{stageFrom}
 use Rattle.terms.proofs.Faults.{placed-few}
 use Rattle.log.proofs.Steps.{stands-stamped}
 use Rattle.evaluate.specs.Seen.{stageIn}

@@ -4,9 +4,9 @@ use native.Mathlib.Numerals.{add-one}
 use native.Mathlib.Omega.{arith}
 use borrow.Author.Needs.{needs}
 use lib.ListN.{getD}
-use Rattle.model.specs.Terms.{schemaAt}
-use Rattle.model.specs.Calls.{termsOf}
-use Rattle.model.proofs.KindLaws.{kinds-count}
+use Rattle.meaning.specs.Terms.{schemaAt}
+use Rattle.format.specs.Fields.{termsOf}
+use Rattle.format.proofs.KindLaws.{kinds-count}
 use Rattle.report.proofs.Most.{schema-most, listed-count, none-listed}
 use Rattle.report.proofs.rows.most_of.Statement.{statement}
 use Rattle.report.proofs.rows.most_of.Tie as tie

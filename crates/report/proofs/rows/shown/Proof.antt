@@ -1,7 +1,7 @@
 -- `shown` meets its contract: one row where there is a time. Assumes nothing.
 use native.Mathlib.Omega.{arith}
 use borrow.Author.Needs.{needs}
-use Rattle.model.specs.Rows.{rowAt}
+use Rattle.meaning.specs.Rows.{rowAt}
 use Rattle.report.proofs.rows.shown.Statement.{statement}
 use Rattle.report.proofs.rows.shown.Tie as tie
 

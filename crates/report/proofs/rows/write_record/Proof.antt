@@ -4,14 +4,14 @@ use native.Mathlib.Omega.{arith}
 use mathlib.Core.Path.{_≡_, refl, sym, _∙_}
 use mathlib.Core.List.{List, [], _++_, append-nil}
 use borrow.Author.Needs.{needs}
-use Rattle.model.specs.declared.Time.{Time}
-use Rattle.model.specs.declared.Stage.{Stage}
-use Rattle.model.specs.declared.Stage.the-variants.{Created, Detached, Expired, Discharged, Violated}
-use Rattle.model.specs.declared.Row.{Row}
-use Rattle.model.specs.Bytes.{byteAt}
-use Rattle.model.specs.Terms.{schemaAt}
-use Rattle.model.specs.Rows.{rowAt}
-use Rattle.model.specs.Calls.{termsOf}
+use Rattle.meaning.specs.declared.Time.{Time}
+use Rattle.meaning.specs.declared.Stage.{Stage}
+use Rattle.meaning.specs.declared.Stage.the-variants.{Created, Detached, Expired, Discharged, Violated}
+use Rattle.meaning.specs.declared.Row.{Row}
+use Rattle.meaning.specs.Terms.{schemaAt}
+use Rattle.meaning.specs.Rows.{rowAt}
+use Rattle.format.specs.Bytes.{byteAt}
+use Rattle.format.specs.Fields.{termsOf}
 use Rattle.log.proofs.Steps.{stands-inside}
 use Rattle.report.specs.Shown.{rowBy, recordRows}
 use Rattle.report.proofs.RowSteps.{record-other, record-shown}

@@ -4,7 +4,7 @@ use native.Mathlib.Nat.{zero-add, mul-div-right}
 use native.Mathlib.Omega.{arith}
 use lib.Dec.{lit<}
 use lib.ListN.{length}
-use Rattle.model.specs.Calls.{termsOf}
+use Rattle.format.specs.Fields.{termsOf}
 use Rattle.report.specs.Shown.{rowsFrom, schemasFrom}
 use Rattle.terms.proofs.Faults.{schemas-count}
 use Rattle.report.proofs.RowSteps.{schemas-step, schemas-none}

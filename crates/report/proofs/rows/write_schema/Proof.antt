@@ -3,9 +3,9 @@ use Prim.Native.Nat.{_-_}
 use native.Mathlib.Omega.{arith}
 use lib.ListN.{length}
 use borrow.Author.Needs.{needs}
-use Rattle.model.specs.Records.{valueWidth}
-use Rattle.model.specs.Calls.{termsOf}
-use Rattle.model.proofs.WalkLaws.{walk-end}
+use Rattle.format.specs.Fields.{termsOf}
+use Rattle.format.specs.Records.{valueWidth}
+use Rattle.format.proofs.WalkLaws.{walk-end}
 use Rattle.log.proofs.Steps.{Step, step, stop}
 use Rattle.report.specs.Shown.{recordRows, rowsFrom}
 use Rattle.report.proofs.RowSteps.{rows-step, rows-none}
