@@ -1,11 +1,13 @@
 -- The sample share of document 01: its bytes, and the cases A to J as one list over the calls, closed by computation. Assumes nothing.
-use Prim.Native.Nat.{ℕ, _/_, _%_}
-use mathlib.Core.Path.{_≡_, refl}
-use mathlib.Core.List.{List, [], _∷_, _++_, map}
+use Prim.Native.Nat.{ℕ}
+use mathlib.Core.Path.{refl}
+use mathlib.Core.List.{List, [], _∷_, _++_}
 use lib.ListN.{replicate}
 use Rattle.format.specs.Records.{valueWidth}
 use Rattle.calls.specs.Answers.{Answer}
 use Rattle.calls.specs.Calls.{checkTerms, Outcome, append, report}
+use Rattle.meaning.proofs.Cases.{Case, case, Hold}
+use Rattle.format.proofs.CaseBytes.{word}
 use Rattle.calls.proofs.Computes.{computes}
 
 -- kinds Shared, Revoked and Written; a prohibition: always; Revoked; and a consequent
@@ -37,10 +39,6 @@ boundCited form =
     termsWith
     (0x03 ∷ 0x00 ∷ 0x02 ∷ 0x01 ∷ form ∷ 0x00 ∷ 0x00 ∷ 0x00 ∷ 0x00 ∷ 0x00 ∷ 0x01 ∷ form ∷ 0x00 ∷ 0x64 ∷ 0x00 ∷ 0x00 ∷ 0x00 ∷ [])
 
--- a number in four bytes, low byte first
-abbrev pub word : ℕ → List ℕ
-word n = n % 256 ∷ n / 256 % 256 ∷ n / 65536 % 256 ∷ n / 16777216 % 256 ∷ []
-
 -- Written (5, n) at t
 abbrev pub writing : ℕ → ℕ → List ℕ
 writing t n = 2 ∷ (word t ++ (word 5 ++ word n))
@@ -69,23 +67,8 @@ gives number value left = record { answer = record { number = number; value = va
 abbrev pub told : Answer → Outcome
 told answer = record { answer = answer; left = [] }
 
--- a call, and what document 01 says of it
-pub record Case : Type 0 where
-  -- what it gives
-  pub is : Outcome
-  -- what it should give
-  pub should : Outcome
-
--- the call, then what it should give
-abbrev pub case : Outcome → Outcome → Case
-case is should = record { is = is; should = should }
-
--- each call of a list gives what it should, in number, count or length and every byte
-abbrev pub Hold : List Case → Type 0
-Hold cs = map (λ (c : Case). c .is) cs ≡ map (λ (c : Case). c .should) cs
-
 -- the cases A to J
-abbrev cases : List Case
+abbrev cases : List (Case Outcome)
 cases =
     -- A: at 46 the write at 45 violates
     case (report valueWidth terms (log 45) 56 46 (rest 60)) (gives 0 3 (row 1 10 ++ (row 2 30 ++ (row 5 45 ++ rest 6))))

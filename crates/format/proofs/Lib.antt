@@ -13,3 +13,5 @@ pub mod WalkLaws
 pub mod WrittenLaws
 pub mod RowBytesLaws
 pub mod Computes
+pub mod CaseBytes
+pub mod Readings

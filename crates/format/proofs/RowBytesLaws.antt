@@ -1,4 +1,5 @@
--- Rows in bytes: their length, the time in their last four bytes, and rows one behind another on a page. For every width w of a value.
+-- Rows in bytes: their length, the time in their last four bytes, rows one after another on a page, and that bytes tell a row. For every width w of
+-- a value.
 -- Assumes nothing.
 use Prim.Native.Nat.{ℕ, _+_, _*_, _^_, _<_}
 use native.Mathlib.Nat.{mul-suc}
@@ -66,9 +67,13 @@ rows-in w (x ∷ rows) t =
 
 -- a row whose numbers fit their bytes
 pub record FitsBytes (w : ℕ) (x : Row) : Type 0 where
+  -- the key
   pub key-fits : x .key < 256 ^ w
+  -- the privileged party
   pub privileged-fits : x .privileged < 256 ^ w
+  -- the liable party
   pub liable-fits : x .liable < 256 ^ w
+  -- the time
   pub time-fits : x .time < 256 ^ 4
 
 -- a row is told by its bytes

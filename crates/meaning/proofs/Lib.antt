@@ -16,3 +16,5 @@ pub mod EntryLaws
 pub mod SameBefore
 pub mod RowsSame
 pub mod Computes
+pub mod Cases
+pub mod Readings
