@@ -1,6 +1,6 @@
 -- Proofs over the calls. Laws first, the theorems they serve behind them.
-pub mod RefusalLaws
 pub mod AnswerLaws
+pub mod RefusalLaws
 pub mod WriteLaws
 pub mod AcceptedLaws
 pub mod StandingLaws

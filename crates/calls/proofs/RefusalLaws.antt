@@ -9,6 +9,7 @@ use mathlib.Core.List.{List, [], _∷_, _++_, List·Memᴰ, List·Memᴰ·not-ni
 use lib.Dec.{ltb}
 use lib.ListN.{take}
 use borrow.Author.Tests.{ltb-true}
+use Rattle.calls.specs.declared.Refusal.the-variants.{TermsTooLong, BrokenGrammar, FieldOutOfRange, CitationTooHigh, NothingShared, UsedTooLong, BrokenRecord, StampFalls, KeyRepeats, PageTooShort, NotOneRecord, StampTooLow, KeyPresent, NoRoom, NoSchema, NoSubject}
 use Rattle.meaning.specs.declared.Entries.{Entries}
 use Rattle.meaning.specs.declared.Row.{Row}
 use Rattle.meaning.specs.Lists.{All}
@@ -18,14 +19,24 @@ use Rattle.format.specs.Fields.{fieldWrong, citationWrong, unsharedEvent, terms
 use Rattle.format.specs.Records.{recordFrom, brokenRecord, logOf, notOneRecord}
 use Rattle.calls.specs.Calls.{Check, refusal, termsTooLong, usedTooLong, stampTooLow, keyPresent, noRoom, pageTooShort, noSchema, termsChecks, usedChecks, recordChecks, logChecks, eventChecks, pageChecks, rowsOf, missing, standingSubject, keyChecks, checked, checkTerms, checkLog, Outcome, unlessRefused, append, onPage, report, standingAs, standing}
 use Rattle.calls.specs.Lasting.{Accepted}
+use Rattle.meaning.proofs.ListLaws.{all-append}
 use Rattle.meaning.proofs.MemberLaws.{member-has}
+use Rattle.calls.proofs.AnswerLaws.{refusal-positive}
 
 -- no check of a list holds
 abbrev pub NoneHolds : List Check → Type 0
 NoneHolds checks = All (λ (c : Check). c .holds ≡ false) checks
 
--- where no check has the number 0, the answer is 0 exactly if no check holds
-pub refusal-none : (checks : List Check) → All (λ (c : Check). 1 ≤ c .number) checks → (refusal checks ≡ 0) ↔ NoneHolds checks
+-- a check does not have the number 0
+abbrev pub Positive : Check → Type 0
+Positive c = 1 ≤ c .number
+
+-- no check of a list has
+abbrev pub Numbered : List Check → Type 0
+Numbered checks = All Positive checks
+
+-- where none has, the answer is 0 exactly if no check holds
+pub refusal-none : (checks : List Check) → Numbered checks → (refusal checks ≡ 0) ↔ NoneHolds checks
 unfolding refusal
 refusal-none [] n = (λ e. tt, λ e. refl)
 refusal-none (c ∷ checks) n = go (c .holds) (refusal-none checks (n .1))
@@ -132,10 +143,6 @@ refusal-listed checks = go (refusal checks) refl
         let f = refusal-first checks (suc n) e (omega arith) in
         inr (f .check, subst (List·Memᴰ (f .check)) (sym (f .place)) (Memᴰ·append-right (f .ahead) (List·Memᴰ·head refl)), f .holds, f .numbered)
 
--- a list that rises from 0 gives 0 exactly if no check holds
-rising-none : (checks : List Check) → risesFrom 0 checks ≡ true → (refusal checks ≡ 0) ↔ NoneHolds checks
-rising-none checks e = refusal-none checks (rises-above 0 0 checks (omega arith) e)
-
 -- the numbers of each call's checks rise
 pub record Rising (w : ℕ) (terms log : List ℕ) (used : ℕ) : Type 0 where
   -- call 1
@@ -159,6 +166,19 @@ rising w terms log used = record {
   report-rises = λ rows page. refl;
   standing-rises = λ schema key m. refl;
 }
+
+-- each check of terms is a refusal's, and no refusal has the number 0
+terms-numbered : (terms : List ℕ) → Numbered (termsChecks terms)
+unfolding termsChecks
+terms-numbered terms =
+    (refusal-positive TermsTooLong, (refusal-positive BrokenGrammar, (refusal-positive FieldOutOfRange, (refusal-positive CitationTooHigh, (refusal-positive NothingShared, tt)))))
+
+-- so is each check of terms and log
+pub log-numbered : (w : ℕ) (terms log : List ℕ) (used : ℕ) → Numbered (logChecks w terms log used)
+unfolding logChecks usedChecks recordChecks
+log-numbered w terms log used =
+    all-append Positive (termsChecks terms) _ (terms-numbered terms)
+    (refusal-positive UsedTooLong, (refusal-positive BrokenRecord, (refusal-positive StampFalls, (refusal-positive KeyRepeats, tt))))
 
 -- accepted terms: none of the refusals 1 to 5 holds
 pub record TermsAccepted (terms : List ℕ) : Type 0 where
@@ -239,21 +259,21 @@ log-none w terms log used =
     )
 
 -- the refusals of a call that takes terms and log: 1 to 9, then its own
-beyond-log : (w : ℕ) (terms log : List ℕ) (used : ℕ) (own : List Check) → risesFrom 0 (logChecks w terms log used ++ own) ≡ true
+beyond-log : (w : ℕ) (terms log : List ℕ) (used : ℕ) (own : List Check) → Numbered own
     → (refusal (logChecks w terms log used ++ own) ≡ 0) ↔ (LogAccepted w terms log used × NoneHolds own)
-beyond-log w terms log used own e =
-    Iff·trans (rising-none (logChecks w terms log used ++ own) e)
+beyond-log w terms log used own n =
+    Iff·trans (refusal-none (logChecks w terms log used ++ own) (all-append Positive (logChecks w terms log used) own (log-numbered w terms log used) n))
     (Iff·trans (none-append (logChecks w terms log used) own) (Iff·and (log-none w terms log used) Iff·rfl))
 
 -- call 1 accepts exactly the terms to which none of 1 to 5 applies
 pub terms-accepted : (terms : List ℕ) → (checkTerms terms .number ≡ 0) ↔ TermsAccepted terms
 unfolding checkTerms checked
-terms-accepted terms = Iff·trans (rising-none (termsChecks terms) (rising 0 terms [] 0 .terms-rise)) (terms-none terms)
+terms-accepted terms = Iff·trans (refusal-none (termsChecks terms) (terms-numbered terms)) (terms-none terms)
 
 -- call 2 accepts exactly the logs to which none of 1 to 9 applies
 pub log-accepted : (w : ℕ) (terms log : List ℕ) (used : ℕ) → (checkLog w terms log used .number ≡ 0) ↔ LogAccepted w terms log used
 unfolding checkLog checked
-log-accepted w terms log used = Iff·trans (rising-none (logChecks w terms log used) (rising w terms log used .log-rises)) (log-none w terms log used)
+log-accepted w terms log used = Iff·trans (refusal-none (logChecks w terms log used) (log-numbered w terms log used)) (log-none w terms log used)
 
 -- the number of a call that may write is the refusal's
 refused-number : (n : ℕ) (buffer : List ℕ) (o : Outcome) → Accepted o → unlessRefused n buffer o .answer .number ≡ n
@@ -288,7 +308,7 @@ pub append-accepted : (w : ℕ) (terms log : List ℕ) (used : ℕ) (event : Lis
     → Accepted (append w terms log used event) ↔ AppendAccepted w terms log used event
 unfolding eventChecks
 append-accepted w terms log used event =
-    rw append-number (Iff·trans (beyond-log w terms log used _ (rising w terms log used .append-rises event)) (
+    rw append-number (Iff·trans (beyond-log w terms log used _ (refusal-positive NotOneRecord, (refusal-positive StampTooLow, (refusal-positive KeyPresent, (refusal-positive NoRoom, tt))))) (
       λ h. record { log-ok = h .0; one-record = h .1 .0; not-earlier = h .1 .1 .0; new = h .1 .1 .1 .0; event-fits = h .1 .1 .1 .1 .0 },
       λ a. (a .log-ok, (a .one-record, (a .not-earlier, (a .new, (a .event-fits, tt))))),
     ))
@@ -298,14 +318,14 @@ pub report-accepted : (w : ℕ) (terms log : List ℕ) (used m : ℕ) (page : Li
     ↔ (LogAccepted w terms log used × (pageTooShort w (rowsOf w terms log used m) page ≡ false))
 unfolding pageChecks
 report-accepted w terms log used m page =
-    rw report-number (Iff·trans (beyond-log w terms log used _ (rising w terms log used .report-rises (rowsOf w terms log used m) page)) (λ h. (h .0, h .1 .0), λ a. (a .0, (a .1, tt))))
+    rw report-number (Iff·trans (beyond-log w terms log used _ (refusal-positive PageTooShort, tt)) (λ h. (h .0, h .1 .0), λ a. (a .0, (a .1, tt))))
 
 -- call 5 accepts exactly the questions to which none of 1 to 9, 15 and 16 applies
 pub standing-accepted : (w : ℕ) (terms log : List ℕ) (used schema key m : ℕ) → (standing w terms log used schema key m .number ≡ 0)
     ↔ StandingAccepted w terms log used schema key m
 unfolding keyChecks
 standing-accepted w terms log used schema key m =
-    rw standing-number (Iff·trans (beyond-log w terms log used _ (rising w terms log used .standing-rises schema key m)) (
+    rw standing-number (Iff·trans (beyond-log w terms log used _ (refusal-positive NoSchema, (refusal-positive NoSubject, tt))) (
       λ h. record { log-ok = h .0; schema-there = h .1 .0; subject-there = h .1 .1 .0 },
       λ a. (a .log-ok, (a .schema-there, (a .subject-there, tt))),
     ))
