@@ -6,12 +6,12 @@
  * target/staticlib/libservice.a, which `rt staticlib service` writes.
  *
  * Memory
- * - A pointer and the length behind it lend so many bytes for the time of the call. Each of these bytes is initialised, those of a page and
+ * - A pointer and the length after it lend so many bytes for the time of the call. Each of these bytes is initialised, those of a page and
  *   of the unused end of a log buffer too.
  * - What a call may write (an append the log buffer, a report the page) has no byte in common with anything else lent to that call. No
  *   call checks this.
  * - During a call nobody else writes to the memory lent to it, or reads what it may write.
- * - Behind a pointer with the length 0 nothing is read or written. The proofs do not know null; null with the length 0 was tried for every
+ * - Nothing is read or written through a pointer with the length 0. The proofs do not know null; null with the length 0 was tried for every
  *   pointer, also under valgrind, and does as an empty array does. Null with another length is not allowed.
  * - Nothing is kept from one call to the next: the archive has no writable data, and needs memcpy and memset only. So several threads may
  *   call at once, each with its own memory to be written. Terms, and a log that is only read, may be lent to several at once.
@@ -110,21 +110,21 @@ uint64_t agreements_check_terms(const uint8_t *terms, size_t terms_length);
 uint64_t agreements_check_log(const uint8_t *terms, size_t terms_length, const uint8_t *log, size_t log_length, size_t used);
 
 /*
- * Call 3: puts the bytes of an event, one record, right behind the used ones and changes no other byte. The value is the new used length.
- * With a refusal no byte changes, and the used length before the call goes on; the value 0 is none.
+ * Call 3: puts the bytes of an event, one record, right after the used ones and changes no other byte. The value is the new used length.
+ * With a refusal no byte changes, and the used length stays what it was; ignore the value.
  */
 uint64_t agreements_append(const uint8_t *terms, size_t terms_length, uint8_t *log, size_t log_length, size_t used,
                            const uint8_t *event, size_t event_length);
 
 /*
  * Call 4: puts the rows timed before a moment on a page, without gaps from its first byte on: by schema, then by the subject's place in the
- * log, then by stage. The value is how many there are, at most five for each record under each schema. The bytes behind the rows do not
+ * log, then by stage. The value is how many there are, at most five for each record under each schema. The bytes after the rows do not
  * change, and with a refusal none does.
  *
  * A report lasts. Let it be accepted; let appends follow it, accepted or refused, and then a later report, accepted and at the same moment or
- * after it; let all of them be given the same terms, the same log buffer and the used length that goes on, and let nobody else write to
- * terms or log. If no accepted event is stamped before the first report's moment, then the later one has the first one's rows and no others,
- * once those timed at the first one's moment or later are struck out.
+ * after it. Let all of them be given the same terms, the same log buffer, and the used length that the last accepted append returned, at first
+ * that of the report; let nobody else write to terms or log. If no accepted event is stamped before the first report's moment, then the later
+ * report has the first one's rows and no others, once those timed at the first one's moment or later are struck out.
  */
 uint64_t agreements_report(const uint8_t *terms, size_t terms_length, const uint8_t *log, size_t log_length, size_t used,
                            uint32_t moment, uint8_t *page, size_t page_length);

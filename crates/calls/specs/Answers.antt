@@ -1,4 +1,4 @@
--- What each case of the answers stands for: document 01, 'Calls', the table and the paragraph behind it. Assumes nothing: these are definitions.
+-- What each case of the answers stands for: document 01, 'Calls', the table and the paragraph after it. Assumes nothing: these are definitions.
 use Prim.Native.Nat.{ℕ, _+_, _*_, _/_, _%_}
 use Rattle.calls.specs.declared.Refusal.{Refusal}
 use Rattle.calls.specs.declared.Refusal.the-variants.{TermsTooLong, BrokenGrammar, FieldOutOfRange, CitationTooHigh, NothingShared, UsedTooLong, BrokenRecord, StampFalls, KeyRepeats, PageTooShort, NotOneRecord, StampTooLow, KeyPresent, NoRoom, NoSchema, NoSubject}
@@ -32,21 +32,21 @@ refusalNumber NoRoom = 14
 refusalNumber NoSchema = 15
 refusalNumber NoSubject = 16
 
--- what calls 1 to 4 return (behind the table)
+-- what calls 1 to 4 return (after the table)
 pub record Answer : Type 0 where
   -- 0, or the refusal's number
   pub number : ℕ
   -- a count or a length; 0 with a refusal
   pub value : ℕ
 
--- what call 5 returns (behind the table)
+-- what call 5 returns (after the table)
 pub record StandingAnswer : Type 0 where
   -- 0, or the refusal's number
   pub number : ℕ
   -- five times not yet with a refusal
   pub entries : Entries
 
--- calls 1 and 2 count nothing (behind the table)
+-- calls 1 and 2 count nothing (after the table)
 unfoldable pub checkedAnswer : Checked → Answer
 checkedAnswer checkedCase.Accepted = record { number = 0; value = 0 }
 checkedAnswer (checkedCase.Refused x) = record { number = refusalNumber x; value = 0 }

@@ -1,5 +1,5 @@
 -- Demand 3: a given report lasts. The statement, over the outcomes of calls 3 and 4; its proof is proofs/Lasts.antt.
--- Document 00, demand 3, in the words that document 01 gives for it behind the table of 'Calls'. Assumes nothing: these are definitions.
+-- Document 00, demand 3, in the words that document 01 gives for it after the table of 'Calls'. Assumes nothing: these are definitions.
 use Prim.Native.Nat.{ℕ, zero, suc, _*_, _≤_}
 use mathlib.Core.Path.{_≡_}
 use mathlib.Core.List.{List, [], _∷_, flatten}
@@ -60,7 +60,7 @@ rowsLeft w m o = strike (timeIn w) m (pieces (rowLength w) (o .answer .value) (o
 
 -- the later report, struck, has the earlier one's bytes and its number of rows
 pub record Remains (w m : ℕ) (earlier later : Outcome) : Type 0 where
-  -- the rows left, one behind another
+  -- the rows left, one after another
   pub same-bytes : flatten (rowsLeft w m later) ≡ rowsGiven w earlier
   -- how many are left
   pub same-count : length (rowsLeft w m later) ≡ earlier .answer .value

@@ -7,7 +7,7 @@ use Rattle.cases.specs.Lends.{Lends}
 
 -- Its name and its end are places of the text; its terms, its log and its event fill no more than their buffers.
 pub record Within (case : Case) (text terms log event : List ℕ) : Type 0 where
-  -- the name ends behind its start
+  -- the name ends after its start
   pub named : case .name ≤ case .until
   -- and before the case does
   pub name-ends : case .until ≤ case .at

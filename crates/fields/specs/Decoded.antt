@@ -29,7 +29,7 @@ abbrev pub boundIn : BoundForm → Option Bound
 boundIn (boundForm.Is b) = some b
 boundIn boundForm.NotABound = none
 
--- a connective at a place: its first operand stands behind its byte, its second one at another place, with so many items left for it
+-- a connective at a place: its first operand stands after its byte, its second one at another place, with so many items left for it
 abbrev pub JoinedAt : (Expr Leaf → Expr Leaf → Expr Leaf) → List ℕ → ℕ → ℕ → ℕ → ℕ → Type 0
 JoinedAt join s at items second left =
     (exprAt s at items ≡ join (exprAt s (at + 1) (items - 1)) (exprAt s second left)) × (at < length s) × (left < items)

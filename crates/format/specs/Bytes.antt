@@ -34,7 +34,7 @@ pieces size (suc n) s = take size s ∷ pieces size n (drop size s)
 unfoldable pub written : List ℕ → ℕ → List ℕ → List ℕ
 written buffer at bs = take at buffer ++ (bs ++ drop (at + length bs) buffer)
 
--- what is read at the front of bytes, with the bytes behind it; none where it does not stand there (items, log record)
+-- what is read at the front of bytes, with the bytes that follow; none where it does not stand there (items, log record)
 abbrev pub Reader : Type 0 → Type 0
 Reader A = List ℕ → Option (A × List ℕ)
 

@@ -126,7 +126,7 @@ pub record WholeSchema (x : SchemaItems) : Type 0 where
   -- consequent
   pub consequent-whole : WholeExpr (x .consequent)
 
--- bytes that keep the grammar: kinds and schemas within their counts, written, and nothing behind them (Grammar)
+-- bytes that keep the grammar: kinds and schemas within their counts, written, and nothing after them (Grammar)
 pub record Grammatical (s : List ℕ) : Type 0 where
   -- the bodies of the items 01
   pub kinds : List (List ℕ)

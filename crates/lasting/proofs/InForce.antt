@@ -24,55 +24,55 @@ use Rattle.report.proofs.report.Reads as reportReads
 use Rattle.service.proofs.Split.{append-splits, report-splits}
 use Rattle.service.proofs.agreements_append.Reads as servedAppendReads
 use Rattle.service.proofs.agreements_report.Reads as servedReportReads
-use Rattle.lasting.specs.Demand.{AppendCalls, ReportCalls, Turn, heldAtEnd, InTurn, NoneEarlier, GivenLasts, AlikeGiveSame, CallsLast}
+use Rattle.lasting.specs.Demand.{AppendRelation, ReportRelation, AppendCall, heldAtEnd, MadeInOrder, NoneEarlier, GivenLasts, AlikeGiveSame, CallsLast}
 use Rattle.lasting.specs.Made.{AppendContract, AppendBy, ReportContract, ReportBy, AppendMade, ReportMade, AppendServed, ReportServed}
 
 -- appends that come to what the model says of them
-abbrev AppendsByModel : AppendCalls → Type 0
+abbrev AppendsByModel : AppendRelation → Type 0
 AppendsByModel appends =
-    (terms : List ℕ) (held : HeldLog) (event : List ℕ) (came : Outcome) → appends terms held event came
-    → came ≡ append valueWidth terms (held .buffer) (held .used) event
+    (terms : List ℕ) (held : HeldLog) (event : List ℕ) (o : Outcome) → appends terms held event o
+    → o ≡ append valueWidth terms (held .buffer) (held .used) event
 
 -- reports that come to what the model says of them
-abbrev ReportsByModel : ReportCalls → Type 0
+abbrev ReportsByModel : ReportRelation → Type 0
 ReportsByModel reports =
-    (terms : List ℕ) (held : HeldLog) (m : ℕ) (page : List ℕ) (came : Outcome) → reports terms held m page came
-    → came ≡ reportOn valueWidth terms held m page
+    (terms : List ℕ) (held : HeldLog) (m : ℕ) (page : List ℕ) (o : Outcome) → reports terms held m page o
+    → o ≡ reportOn valueWidth terms held m page
 
 -- the events that a list brought
-abbrev events : List Turn → List (List ℕ)
-events turns = map (λ (turn : Turn). turn .event) turns
+abbrev events : List AppendCall → List (List ℕ)
+events calls = map (λ (call : AppendCall). call .event) calls
 
-module _ (appends : AppendCalls) (by-model : AppendsByModel appends) (terms : List ℕ) where
-  -- the log held behind an append is the model's
-  after-one : (held : HeldLog) (turn : Turn) → appends terms held (turn .event) (turn .came) → heldAfter held (turn .came) ≡ afterAppend valueWidth terms held (turn .event)
+module _ (appends : AppendRelation) (by-model : AppendsByModel appends) (terms : List ℕ) where
+  -- the log held after an append is the model's
+  after-one : (held : HeldLog) (call : AppendCall) → appends terms held (call .event) (call .outcome) → heldAfter held (call .outcome) ≡ afterAppend valueWidth terms held (call .event)
   unfolding afterAppend
-  after-one held turn made = ap (heldAfter held) (by-model terms held (turn .event) (turn .came) made)
+  after-one held call made = ap (heldAfter held) (by-model terms held (call .event) (call .outcome) made)
 
-  -- so is the log held behind a list of them
-  after-all : (held : HeldLog) (turns : List Turn) → InTurn appends terms held turns → heldAtEnd held turns ≡ afterAppends valueWidth terms held (events turns)
+  -- so is the log held after a list of them
+  after-all : (held : HeldLog) (calls : List AppendCall) → MadeInOrder appends terms held calls → heldAtEnd held calls ≡ afterAppends valueWidth terms held (events calls)
   unfolding heldAtEnd afterAppends
   after-all held [] made = refl
-  after-all held (turn ∷ turns) made =
-      after-all (heldAfter held (turn .came)) turns (made .1) ∙ ap (λ (h : HeldLog). afterAppends valueWidth terms h (events turns)) (after-one held turn (made .0))
+  after-all held (call ∷ calls) made =
+      after-all (heldAfter held (call .outcome)) calls (made .1) ∙ ap (λ (h : HeldLog). afterAppends valueWidth terms h (events calls)) (after-one held call (made .0))
 
   -- and what is said of the stamps of accepted events
-  none-before : (m : ℕ) (held : HeldLog) (turns : List Turn) → InTurn appends terms held turns → NoneEarlier m turns → NoneBefore valueWidth terms m held (events turns)
+  none-before : (m : ℕ) (held : HeldLog) (calls : List AppendCall) → MadeInOrder appends terms held calls → NoneEarlier m calls → NoneBefore valueWidth terms m held (events calls)
   none-before m held [] made late = tt
-  none-before m held (turn ∷ turns) made late = (
-    λ ok. late .0 (subst Accepted (sym (by-model terms held (turn .event) (turn .came) (made .0))) ok),
-    subst (λ (h : HeldLog). NoneBefore valueWidth terms m h (events turns)) (after-one held turn (made .0)) (none-before m (heldAfter held (turn .came)) turns (made .1) (late .1)),
+  none-before m held (call ∷ calls) made late = (
+    λ ok. late .0 (subst Accepted (sym (by-model terms held (call .event) (call .outcome) (made .0))) ok),
+    subst (λ (h : HeldLog). NoneBefore valueWidth terms m h (events calls)) (after-one held call (made .0)) (none-before m (heldAfter held (call .outcome)) calls (made .1) (late .1)),
   )
 
-module _ (appends : AppendCalls) (reports : ReportCalls) (appends-by-model : AppendsByModel appends) (reports-by-model : ReportsByModel reports) where
+module _ (appends : AppendRelation) (reports : ReportRelation) (appends-by-model : AppendsByModel appends) (reports-by-model : ReportsByModel reports) where
   -- the first half
   given-lasts : GivenLasts appends reports
-  given-lasts terms held m page given made ok turns in-turn late m′ not-before page′ later made′ ok′ =
-      let ends = after-all appends appends-by-model terms held turns in-turn in
-      let none = none-before appends appends-by-model terms m held turns in-turn late in
+  given-lasts terms held m page given made ok calls in-order late m′ not-before page′ later made′ ok′ =
+      let ends = after-all appends appends-by-model terms held calls in-order in
+      let none = none-before appends appends-by-model terms m held calls in-order late in
       let is = reports-by-model terms held m page given made in
-      let is′ = reports-by-model terms (heldAtEnd held turns) m′ page′ later made′ ∙ ap (λ (h : HeldLog). reportOn valueWidth terms h m′ page′) ends in
-      rw (is, is′) (report-lasts valueWidth terms held m page (subst Accepted is ok) (events turns) none m′ not-before page′ (subst Accepted is′ ok′))
+      let is′ = reports-by-model terms (heldAtEnd held calls) m′ page′ later made′ ∙ ap (λ (h : HeldLog). reportOn valueWidth terms h m′ page′) ends in
+      rw (is, is′) (report-lasts valueWidth terms held m page (subst Accepted is ok) (events calls) none m′ not-before page′ (subst Accepted is′ ok′))
 
   -- the second half
   alike-give-same : AlikeGiveSame reports
@@ -90,8 +90,8 @@ append-by-model : (A : Type 0) (contract : AppendContract A) (answerOf : A → A
     → ((κs : Lfts 3) (a : Dens κs appendKinds.ps) (r : A) (s : AtExit (endedOf 3 appendKinds.ps appendKinds.r) κs) → contract κs a r s
     → outcome (answerOf r) (now (s .1 .0)) ≡ append valueWidth (now (a .0)) (now (a .1 .0)) (a .1 .1 .0) (now (a .1 .1 .1 .0)))
     → AppendsByModel (AppendBy A contract answerOf)
-append-by-model A contract answerOf says terms held event came made =
-    sym (λ i. outcome (made .answered i) (made .left-behind i))
+append-by-model A contract answerOf says terms held event o made =
+    sym (λ i. outcome (made .answered i) (made .left-at-exit i))
     ∙ says (made .lifetimes) (made .lent) (made .result) (made .atExit) (made .ensured)
     ∙ (λ i. append valueWidth (made .of-terms i) (made .of-buffer i) (made .of-used i) (made .of-event i))
 
@@ -101,8 +101,8 @@ report-by-model : (A : Type 0) (contract : ReportContract A) (answerOf : A → A
     → outcome (answerOf r) (now (s .1 .1 .1 .1 .0)) ≡ report valueWidth (now (a .0)) (now (a .1 .0)) (a .1 .1 .0) (a .1 .1 .1 .0) (now (a .1 .1 .1 .1 .0)))
     → ReportsByModel (ReportBy A contract answerOf)
 unfolding reportOn
-report-by-model A contract answerOf says terms held m page came made =
-    sym (λ i. outcome (made .answered i) (made .left-behind i))
+report-by-model A contract answerOf says terms held m page o made =
+    sym (λ i. outcome (made .answered i) (made .left-at-exit i))
     ∙ says (made .lifetimes) (made .lent) (made .result) (made .atExit) (made .ensured)
     ∙ (λ i. report valueWidth (made .of-terms i) (made .of-buffer i) (made .of-used i) (made .of-moment i) (made .of-page i))
 

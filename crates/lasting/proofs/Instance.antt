@@ -19,15 +19,15 @@ use Rattle.append.proofs.append.Reads as appendReads
 use Rattle.report.proofs.report.Reads as reportReads
 use Rattle.service.proofs.agreements_append.Reads as servedAppendReads
 use Rattle.service.proofs.agreements_report.Reads as servedReportReads
-use Rattle.lasting.specs.Demand.{AppendCalls, ReportCalls, Turn, heldAtEnd, InTurn, CallsLast}
+use Rattle.lasting.specs.Demand.{AppendRelation, ReportRelation, AppendCall, heldAtEnd, MadeInOrder, CallsLast}
 use Rattle.lasting.specs.Made.{AppendContract, AppendBy, ReportContract, ReportBy, AppendMade, ReportMade, AppendServed, ReportServed}
 use Rattle.lasting.proofs.InForce.{in-force, served-in-force}
 
 -- Written (5, 3) at 44 is refused with 12, at 45 it is accepted
-abbrev pub turns : List Turn
-turns =
-    record { event = writing 44 3; came = gives 12 0 (log 45 ++ rest 24) }
-    ∷ record { event = writing 45 3; came = gives 0 69 (log 45 ++ (writing 45 3 ++ rest 11)) }
+abbrev pub calls : List AppendCall
+calls =
+    record { event = writing 44 3; outcome = gives 12 0 (log 45 ++ rest 24) }
+    ∷ record { event = writing 45 3; outcome = gives 0 69 (log 45 ++ (writing 45 3 ++ rest 11)) }
     ∷ []
 
 -- the report at 45 has two rows
@@ -43,22 +43,22 @@ abbrev pub of-other : Outcome
 of-other = gives 0 2 (row 1 10 ++ (row 2 30 ++ rest 4))
 
 -- calls of a kind that come to this
-pub record Tried (appends : AppendCalls) (reports : ReportCalls) : Type 0 where
+pub record Tried (appends : AppendRelation) (reports : ReportRelation) : Type 0 where
   -- the report at 45
   pub given-made : reports terms held 45 (rest 54) given
   -- both appends
-  pub turns-made : InTurn appends terms held turns
+  pub appends-made : MadeInOrder appends terms held calls
   -- the report at 46
-  pub later-made : reports terms (heldAtEnd held turns) 46 (rest 60) later
+  pub later-made : reports terms (heldAtEnd held calls) 46 (rest 60) later
   -- the report of the other log
   pub other-made : reports terms other 45 (rest 40) of-other
 
 -- where demand 3 holds of such calls, it says this of them, in both halves
-lasts-of : (appends : AppendCalls) (reports : ReportCalls) → CallsLast appends reports → Tried appends reports
+lasts-of : (appends : AppendRelation) (reports : ReportRelation) → CallsLast appends reports → Tried appends reports
     → Remains valueWidth 45 given later × SameReport valueWidth given of-other
 unfolding computes
 lasts-of appends reports lasts tried = (
-  lasts .0 terms held 45 (rest 54) given (tried .given-made) refl turns (tried .turns-made)
+  lasts .0 terms held 45 (rest 54) given (tried .given-made) refl calls (tried .appends-made)
       (λ e. absurd (omega arith), (λ e. omega arith, tt)) 46 (omega arith) (rest 60) later (tried .later-made) refl,
   lasts .1 terms 45 held other (rest 54) (rest 40) given of-other (tried .given-made) refl (tried .other-made) refl refl,
 )
@@ -68,32 +68,32 @@ abbrev lentAs : List ℕ → RefT (List ℕ)
 lentAs bytes = record { ptr = (0, 0); name = 0; now = bytes }
 
 -- a result and a buffer at exit that a contract of append allows make a call
-append-by : (A : Type 0) (contract : AppendContract A) (answerOf : A → Answer) (held : HeldLog) (event : List ℕ) (result : A) (came : Outcome)
-    → contract ([], ([], ([], tt))) (lentAs terms, (lentAs (held .buffer), (held .used, (lentAs event, tt)))) result (lentAs terms, (lentAs (came .left), (held .used, (lentAs event, tt))))
-    → answerOf result ≡ came .answer → AppendBy A contract answerOf terms held event came
-append-by A contract answerOf held event result came ensured answered = record {
+append-by : (A : Type 0) (contract : AppendContract A) (answerOf : A → Answer) (held : HeldLog) (event : List ℕ) (result : A) (outcome : Outcome)
+    → contract ([], ([], ([], tt))) (lentAs terms, (lentAs (held .buffer), (held .used, (lentAs event, tt)))) result (lentAs terms, (lentAs (outcome .left), (held .used, (lentAs event, tt))))
+    → answerOf result ≡ outcome .answer → AppendBy A contract answerOf terms held event outcome
+append-by A contract answerOf held event result outcome ensured answered = record {
   lifetimes = ([], ([], ([], tt)));
   lent = (lentAs terms, (lentAs (held .buffer), (held .used, (lentAs event, tt))));
   result = result;
-  atExit = (lentAs terms, (lentAs (came .left), (held .used, (lentAs event, tt))));
+  atExit = (lentAs terms, (lentAs (outcome .left), (held .used, (lentAs event, tt))));
   ensured = ensured;
   of-terms = refl;
   of-buffer = refl;
   of-used = refl;
   of-event = refl;
   answered = answered;
-  left-behind = refl;
+  left-at-exit = refl;
 }
 
 -- a result and a page at exit that a contract of report allows make a call
-report-by : (A : Type 0) (contract : ReportContract A) (answerOf : A → Answer) (held : HeldLog) (m : ℕ) (page : List ℕ) (result : A) (came : Outcome)
-    → contract ([], ([], ([], tt))) (lentAs terms, (lentAs (held .buffer), (held .used, (m, (lentAs page, tt))))) result (lentAs terms, (lentAs (held .buffer), (held .used, (m, (lentAs (came .left), tt)))))
-    → answerOf result ≡ came .answer → ReportBy A contract answerOf terms held m page came
-report-by A contract answerOf held m page result came ensured answered = record {
+report-by : (A : Type 0) (contract : ReportContract A) (answerOf : A → Answer) (held : HeldLog) (m : ℕ) (page : List ℕ) (result : A) (outcome : Outcome)
+    → contract ([], ([], ([], tt))) (lentAs terms, (lentAs (held .buffer), (held .used, (m, (lentAs page, tt))))) result (lentAs terms, (lentAs (held .buffer), (held .used, (m, (lentAs (outcome .left), tt)))))
+    → answerOf result ≡ outcome .answer → ReportBy A contract answerOf terms held m page outcome
+report-by A contract answerOf held m page result outcome ensured answered = record {
   lifetimes = ([], ([], ([], tt)));
   lent = (lentAs terms, (lentAs (held .buffer), (held .used, (m, (lentAs page, tt)))));
   result = result;
-  atExit = (lentAs terms, (lentAs (held .buffer), (held .used, (m, (lentAs (came .left), tt)))));
+  atExit = (lentAs terms, (lentAs (held .buffer), (held .used, (m, (lentAs (outcome .left), tt)))));
   ensured = ensured;
   of-terms = refl;
   of-buffer = refl;
@@ -101,7 +101,7 @@ report-by A contract answerOf held m page result came ensured answered = record 
   of-moment = refl;
   of-page = refl;
   answered = answered;
-  left-behind = refl;
+  left-at-exit = refl;
 }
 
 -- calls of the code
@@ -109,11 +109,11 @@ pub made : Tried AppendMade ReportMade
 unfolding computes heldAtEnd
 made = record {
   given-made = report-by _ reportReads.Learnt reportedAnswer held 45 (rest 54) (reportedCase.Count 2) given refl refl;
-  turns-made = (
+  appends-made = (
     append-by _ appendReads.Learnt appendedAnswer held (writing 44 3) (appendedCase.Refused StampTooLow) _ refl refl,
     (append-by _ appendReads.Learnt appendedAnswer held (writing 45 3) (appendedCase.Length 69) _ refl refl, tt),
   );
-  later-made = report-by _ reportReads.Learnt reportedAnswer (heldAtEnd held turns) 46 (rest 60) (reportedCase.Count 3) later refl refl;
+  later-made = report-by _ reportReads.Learnt reportedAnswer (heldAtEnd held calls) 46 (rest 60) (reportedCase.Count 3) later refl refl;
   other-made = report-by _ reportReads.Learnt reportedAnswer other 45 (rest 40) (reportedCase.Count 2) of-other refl refl;
 }
 
@@ -122,11 +122,11 @@ pub made-served : Tried AppendServed ReportServed
 unfolding computes heldAtEnd
 made-served = record {
   given-made = report-by _ servedReportReads.Learnt unpacked held 45 (rest 54) 2 given refl refl;
-  turns-made = (
+  appends-made = (
     append-by _ servedAppendReads.Learnt unpacked held (writing 44 3) 51539607552 _ refl refl,
     (append-by _ servedAppendReads.Learnt unpacked held (writing 45 3) 69 _ refl refl, tt),
   );
-  later-made = report-by _ servedReportReads.Learnt unpacked (heldAtEnd held turns) 46 (rest 60) 3 later refl refl;
+  later-made = report-by _ servedReportReads.Learnt unpacked (heldAtEnd held calls) 46 (rest 60) 3 later refl refl;
   other-made = report-by _ servedReportReads.Learnt unpacked other 45 (rest 40) 2 of-other refl refl;
 }
 

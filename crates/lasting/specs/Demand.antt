@@ -1,5 +1,5 @@
 -- Demand 3 for calls as they were made, one after another; which calls these are is left open. Document 00, demand 3, in the words that
--- document 01 gives for it behind the table of 'Calls'. The model's Lasting states it of the definitions of calls 3 and 4, for every width of a
+-- document 01 gives for it after the table of 'Calls'. The model's Lasting states it of the definitions of calls 3 and 4, for every width of a
 -- value; here it is about what calls returned and left, at the width that the code has. Nothing is asked of the elements: a list holds any
 -- numbers. Assumes nothing: these are definitions.
 use Prim.Native.Nat.{ℕ, _≤_}
@@ -10,45 +10,45 @@ use Rattle.format.specs.Records.{valueWidth, stampIn}
 use Rattle.calls.specs.Calls.{Outcome}
 use Rattle.calls.specs.Lasting.{Accepted, HeldLog, heldAfter, Remains, bytesBefore, SameReport}
 
--- which appends were made: under terms, on a held log, of an event, with what came of it
-abbrev pub AppendCalls : Type 1
-AppendCalls = List ℕ → HeldLog → List ℕ → Outcome → Type 0
+-- which append calls were made: under terms, on a held log, of an event, with this outcome
+abbrev pub AppendRelation : Type 1
+AppendRelation = List ℕ → HeldLog → List ℕ → Outcome → Type 0
 
--- which reports were made: under terms, on a held log, at a moment, on a page, with what came of it
-abbrev pub ReportCalls : Type 1
-ReportCalls = List ℕ → HeldLog → ℕ → List ℕ → Outcome → Type 0
+-- which report calls were made: under terms, on a held log, at a moment, on a page, with this outcome
+abbrev pub ReportRelation : Type 1
+ReportRelation = List ℕ → HeldLog → ℕ → List ℕ → Outcome → Type 0
 
--- one append of a list
-pub record Turn : Type 0 where
-  -- the bytes that it brought
+-- an append call of a list
+pub record AppendCall : Type 0 where
+  -- the bytes of its event
   pub event : List ℕ
   -- its answer, and every byte of the buffer that it left
-  pub came : Outcome
+  pub outcome : Outcome
 
--- the log held behind a list of them, the first append first
-unfoldable pub heldAtEnd : HeldLog → List Turn → HeldLog
+-- the log held after a list of them, the first call first
+unfoldable pub heldAtEnd : HeldLog → List AppendCall → HeldLog
 heldAtEnd held [] = held
-heldAtEnd held (turn ∷ turns) = heldAtEnd (heldAfter held (turn .came)) turns
+heldAtEnd held (call ∷ calls) = heldAtEnd (heldAfter held (call .outcome)) calls
 
--- each append of the list was made under the terms, on the log held behind the one before it
-abbrev pub InTurn : AppendCalls → List ℕ → HeldLog → List Turn → Type 0
-InTurn appends terms held [] = Unit {0}
-InTurn appends terms held (turn ∷ turns) = appends terms held (turn .event) (turn .came) × InTurn appends terms (heldAfter held (turn .came)) turns
+-- each call of the list was made under the terms, on the log held after the one before it
+abbrev pub MadeInOrder : AppendRelation → List ℕ → HeldLog → List AppendCall → Type 0
+MadeInOrder appends terms held [] = Unit {0}
+MadeInOrder appends terms held (call ∷ calls) = appends terms held (call .event) (call .outcome) × MadeInOrder appends terms (heldAfter held (call .outcome)) calls
 
 -- no event that was accepted is stamped before m; refused ones may hold anything
-abbrev pub NoneEarlier : ℕ → List Turn → Type 0
-NoneEarlier m turns = All (λ (turn : Turn). Accepted (turn .came) → m ≤ stampIn (turn .event)) turns
+abbrev pub NoneEarlier : ℕ → List AppendCall → Type 0
+NoneEarlier m calls = All (λ (call : AppendCall). Accepted (call .outcome) → m ≤ stampIn (call .event)) calls
 
--- demand 3, first half: a report that was given, the appends behind it, and a later report
-abbrev pub GivenLasts : AppendCalls → ReportCalls → Type 0
+-- demand 3, first half: a report that was given, the append calls after it, and a later report
+abbrev pub GivenLasts : AppendRelation → ReportRelation → Type 0
 GivenLasts appends reports =
     (terms : List ℕ) (held : HeldLog) (m : ℕ) (page : List ℕ) (given : Outcome) → reports terms held m page given → Accepted given
-    → (turns : List Turn) → InTurn appends terms held turns → NoneEarlier m turns
-    → (m′ : ℕ) → m ≤ m′ → (page′ : List ℕ) (later : Outcome) → reports terms (heldAtEnd held turns) m′ page′ later → Accepted later
+    → (calls : List AppendCall) → MadeInOrder appends terms held calls → NoneEarlier m calls
+    → (m′ : ℕ) → m ≤ m′ → (page′ : List ℕ) (later : Outcome) → reports terms (heldAtEnd held calls) m′ page′ later → Accepted later
     → Remains valueWidth m given later
 
 -- demand 3, second half: reports on two logs alike before m
-abbrev pub AlikeGiveSame : ReportCalls → Type 0
+abbrev pub AlikeGiveSame : ReportRelation → Type 0
 AlikeGiveSame reports =
     (terms : List ℕ) (m : ℕ) (held held′ : HeldLog) (page page′ : List ℕ) (one other : Outcome)
     → reports terms held m page one → Accepted one → reports terms held′ m page′ other → Accepted other
@@ -56,5 +56,5 @@ AlikeGiveSame reports =
     → SameReport valueWidth one other
 
 -- demand 3 whole
-abbrev pub CallsLast : AppendCalls → ReportCalls → Type 0
+abbrev pub CallsLast : AppendRelation → ReportRelation → Type 0
 CallsLast appends reports = GivenLasts appends reports × AlikeGiveSame reports

@@ -16,14 +16,14 @@ use Rattle.report.proofs.report.Kinds as reportKinds
 use Rattle.report.proofs.report.Reads as reportReads
 use Rattle.service.proofs.agreements_append.Reads as servedAppendReads
 use Rattle.service.proofs.agreements_report.Reads as servedReportReads
-use Rattle.lasting.specs.Demand.{AppendCalls, ReportCalls}
+use Rattle.lasting.specs.Demand.{AppendRelation, ReportRelation}
 
 -- what can be said of a call with the parameters of append and a result in A: of lifetimes, arguments, result and parameters at exit
 abbrev pub AppendContract : Type 0 → Type 1
 AppendContract A = (κs : Lfts 3) → Dens κs appendKinds.ps → A → AtExit (endedOf 3 appendKinds.ps appendKinds.r) κs → Type 0
 
 -- a call of which this is said, where a result stands for an answer (call 3)
-pub record AppendBy (A : Type 0) (contract : AppendContract A) (answerOf : A → Answer) (terms : List ℕ) (held : HeldLog) (event : List ℕ) (came : Outcome) : Type 0 where
+pub record AppendBy (A : Type 0) (contract : AppendContract A) (answerOf : A → Answer) (terms : List ℕ) (held : HeldLog) (event : List ℕ) (outcome : Outcome) : Type 0 where
   -- for how long is lent what is lent
   pub lifetimes : Lfts 3
   -- the arguments
@@ -43,16 +43,16 @@ pub record AppendBy (A : Type 0) (contract : AppendContract A) (answerOf : A →
   -- the fourth the event
   pub of-event : now (lent .1 .1 .1 .0) ≡ event
   -- the result stands for the answer
-  pub answered : answerOf result ≡ came .answer
+  pub answered : answerOf result ≡ outcome .answer
   -- the buffer at exit is what is left
-  pub left-behind : now (atExit .1 .0) ≡ came .left
+  pub left-at-exit : now (atExit .1 .0) ≡ outcome .left
 
 -- what can be said of a call with the parameters of report and a result in A
 abbrev pub ReportContract : Type 0 → Type 1
 ReportContract A = (κs : Lfts 3) → Dens κs reportKinds.ps → A → AtExit (endedOf 3 reportKinds.ps reportKinds.r) κs → Type 0
 
 -- a call of which this is said, where a result stands for an answer (call 4)
-pub record ReportBy (A : Type 0) (contract : ReportContract A) (answerOf : A → Answer) (terms : List ℕ) (held : HeldLog) (m : ℕ) (page : List ℕ) (came : Outcome) : Type 0 where
+pub record ReportBy (A : Type 0) (contract : ReportContract A) (answerOf : A → Answer) (terms : List ℕ) (held : HeldLog) (m : ℕ) (page : List ℕ) (outcome : Outcome) : Type 0 where
   -- for how long is lent what is lent
   pub lifetimes : Lfts 3
   -- the arguments
@@ -74,22 +74,22 @@ pub record ReportBy (A : Type 0) (contract : ReportContract A) (answerOf : A →
   -- the fifth the page
   pub of-page : now (lent .1 .1 .1 .1 .0) ≡ page
   -- the result stands for the answer
-  pub answered : answerOf result ≡ came .answer
+  pub answered : answerOf result ≡ outcome .answer
   -- the page at exit is what is left
-  pub left-behind : now (atExit .1 .1 .1 .1 .0) ≡ came .left
+  pub left-at-exit : now (atExit .1 .1 .1 .1 .0) ≡ outcome .left
 
 -- calls of `append::append`
-abbrev pub AppendMade : AppendCalls
+abbrev pub AppendMade : AppendRelation
 AppendMade = AppendBy _ appendReads.Learnt appendedAnswer
 
 -- calls of `report::report`
-abbrev pub ReportMade : ReportCalls
+abbrev pub ReportMade : ReportRelation
 ReportMade = ReportBy _ reportReads.Learnt reportedAnswer
 
 -- calls of the export `agreements_append`
-abbrev pub AppendServed : AppendCalls
+abbrev pub AppendServed : AppendRelation
 AppendServed = AppendBy _ servedAppendReads.Learnt unpacked
 
 -- calls of the export `agreements_report`
-abbrev pub ReportServed : ReportCalls
+abbrev pub ReportServed : ReportRelation
 ReportServed = ReportBy _ servedReportReads.Learnt unpacked

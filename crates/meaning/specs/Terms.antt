@@ -26,7 +26,7 @@ pub data Expr (A : Type 0) : Type 0 where
   and or except : Expr A → Expr A → Expr A
   always : Expr A
 
--- a norm schema (item 02 and the three expressions behind it)
+-- a norm schema (item 02 and the three expressions that follow it)
 pub record Schema : Type 0 where
   -- commitment, authorization, prohibition or power
   pub type : NormType

@@ -34,7 +34,7 @@ askedOfLeaf terms (SomeEvent q) body = anyOf (asked terms q) (leafEvents (leafFr
 unfoldable pub clauseHas : List ℕ → Question → Expr (List ℕ) → Bool
 clauseHas s q x = anyOf (askedOfLeaf (termsOf s) q) (leaves x)
 
--- what a question finds in an expression of at most so many items, read with t behind it: some leaf, or none and where the expression ends
+-- what a question finds in an expression of at most so many items, read with t after it: some leaf, or none and where the expression ends
 abbrev pub WalkedOver : List ℕ → Question → ℕ → Expr (List ℕ) → List ℕ → Walked → Type 0
 WalkedOver s q items x t Found = clauseHas s q x ≡ true
 WalkedOver s q items x t (To end left) = (clauseHas s q x ≡ false) × (t ≡ drop end s) × (end ≤ length s) × (size x + left ≡ items)
