@@ -11,7 +11,7 @@ use Rattle.times.specs.Parts.{partOf, detachPart, consequentPart, conseq
 
 -- the parts of the clauses are enough
 pub stage-needs : (s : Stage) (norm : NormType) (c r u : Times) → stageFrom s norm (partOf Occurrence c) (partOf (detachPart s) r) (partOf (consequentPart s norm) u) ≡ stageFrom s norm c r u
-unfolding stageFrom andOf orOf exceptOf partOf detachPart consequentPart
+unfolding stageFrom andOf orOf exceptOf partOf
 stage-needs Created norm c r u = refl
 stage-needs Detached norm c r u = refl
 stage-needs Expired norm c r u = refl
@@ -26,7 +26,7 @@ stage-needs Violated Power c r u = refl
 
 -- so are those that all stages together need
 pub rows-need : (s : Stage) (norm : NormType) (c r u : Times) → stageFrom s norm (partOf Occurrence c) (partOf Both r) (partOf (consequentParts norm) u) ≡ stageFrom s norm c r u
-unfolding stageFrom andOf orOf exceptOf partOf consequentParts
+unfolding stageFrom andOf orOf exceptOf partOf
 rows-need Created norm c r u = refl
 rows-need Detached norm c r u = refl
 rows-need Expired norm c r u = refl

@@ -16,7 +16,7 @@ partOf Failure x = record { occurs = Never; fails = x .fails }
 partOf Both x = x
 
 -- of the clause r
-unfoldable pub detachPart : Stage → Part
+abbrev pub detachPart : Stage → Part
 detachPart Created = Neither
 detachPart Detached = Occurrence
 detachPart Expired = Failure
@@ -24,7 +24,7 @@ detachPart Discharged = Occurrence
 detachPart Violated = Occurrence
 
 -- of the clause u
-unfoldable pub consequentPart : Stage → NormType → Part
+abbrev pub consequentPart : Stage → NormType → Part
 consequentPart Created norm = Neither
 consequentPart Detached norm = Neither
 consequentPart Expired norm = Neither
@@ -38,7 +38,7 @@ consequentPart Violated Prohibition = Occurrence
 consequentPart Violated Power = Neither
 
 -- of the clause u, for all stages together
-unfoldable pub consequentParts : NormType → Part
+abbrev pub consequentParts : NormType → Part
 consequentParts Commitment = Both
 consequentParts Authorization = Occurrence
 consequentParts Prohibition = Both

@@ -45,7 +45,7 @@ create-below Violated j = omega arith
 
 -- so does what is needed of the clause r
 detach-below : (s : Stage) (j : ℕ) → weight (detachPart s) (3 * j + 1) < rank s j * 512 + 511
-unfolding weight rank detachPart
+unfolding weight rank
 detach-below Created j = omega arith
 detach-below Detached j = omega arith
 detach-below Expired j = omega arith
@@ -54,7 +54,7 @@ detach-below Violated j = omega arith
 
 -- and of the clause u
 consequent-below : (s : Stage) (norm : NormType) (j : ℕ) → weight (consequentPart s norm) (3 * j + 2) < rank s j * 512 + 511
-unfolding weight rank consequentPart
+unfolding weight rank
 consequent-below Created norm j = omega arith
 consequent-below Detached norm j = omega arith
 consequent-below Expired norm j = omega arith
