@@ -162,7 +162,7 @@ row-exact terms log m x = rw report-order (there, here)
 
 same-key : (terms : Terms) (q r : Record) → q .kind ≡ r .kind → keyOf terms q ≡ keyOf terms r → sameKey terms q r ≡ true
 unfolding sameKey hasKey
-same-key terms q r a b = rw (eq-eqb (q .kind) (r .kind) a, eq-eqb (keyOf terms q) (keyOf terms r) b)
+same-key terms q r a b = simp (eq-eqb (q .kind) (r .kind) a, eq-eqb (keyOf terms q) (keyOf terms r) b)
 
 -- a record and a later one are not of one kind with one key
 later-differs : (terms : Terms) (r : Record) (log : Log) (q : Record) → anyOf (sameKey terms r) log ≡ false → List·Memᴰ q log
