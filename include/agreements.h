@@ -6,21 +6,21 @@
  * target/staticlib/libservice.a, which `rt staticlib service` writes.
  *
  * Memory
- * - A pointer and the length after it lend so many bytes for the time of the call. Each of these bytes is initialised, those of a page and
- *   of the unused end of a log buffer too.
+ * - Each pointer, with the length after it, lends that many bytes for the duration of the call. All of them must be initialised, those of
+ *   a page and of the unused end of a log buffer too.
  * - What a call may write (an append the log buffer, a report the page) has no byte in common with anything else lent to that call. No
  *   call checks this.
  * - During a call nobody else writes to the memory lent to it, or reads what it may write.
- * - Nothing is read or written through a pointer with the length 0. The proofs do not know null; null with the length 0 was tried for every
- *   pointer, also under valgrind, and does as an empty array does. Null with another length is not allowed.
+ * - Nothing is read or written through a pointer with the length 0. The proofs do not cover null; null with the length 0 was tried for every
+ *   pointer, also under valgrind, and behaves like an empty array. Null with another length is not allowed.
  * - Nothing is kept from one call to the next: the archive has no writable data, and needs memcpy and memset only. So several threads may
  *   call at once, each with its own memory to be written. Terms, and a log that is only read, may be lent to several at once.
- * - No proof bounds the stack. By trials, the longest chain of citations would take 430 KB of it; give a thread that calls 1 MB.
+ * - No proof bounds the stack. By trials, the longest chain of citations would take 430 KB of it; give each calling thread 1 MB.
  *
  * Time
  * Under terms that cite no stage a report takes up to about four times as long for a log twice as long (docs/SPEED.md). On a page with room
- * for five rows for each subject under each schema it takes about half as long as on a shorter one that holds the rows, since there they are
- * counted before they are written.
+ * for five rows for each subject under each schema it takes about half as long as on a shorter one that holds the rows: on
+ * the shorter one they are counted before they are written.
  *
  * A stage that a clause cites is worked out anew for each citation and each record that matches, and so is each stage that this one cites
  * in turn. So the cost multiplies along a chain of citations, and a report under accepted terms can take very long. For a log of one record
@@ -65,7 +65,7 @@ enum agreements_refusal {
     AGREEMENTS_BROKEN_GRAMMAR = 2,     /* they are not 1 to 32 kinds, then 1 to 16 schemas of a head and three expressions of up to 31 items,
                                           all of them whole, and nothing more */
     AGREEMENTS_FIELD_OUT_OF_RANGE = 3, /* a kind's number is not its place, a mask is 0, a key or a party is not in its kind's mask, a norm
-                                          type, kind, form or sign is not there, a lower bound is open, an offset is above 2,147,483,647,
+                                          type, kind, form or sign does not exist, a lower bound is open, an offset is above 2,147,483,647,
                                           or what has to be 0 is not */
     AGREEMENTS_CITATION_TOO_HIGH = 4,  /* a clause cites a stage of its own rank or of a higher one (docs/FORMAT.md, Citations) */
     AGREEMENTS_NOTHING_SHARED = 5,     /* the kind of an event in a clause (of a stage: its subject kind) has no attribute in common with

@@ -1,4 +1,4 @@
--- Proofs over the calls. Laws first, the theorems they serve behind them.
+-- Proofs over the calls. Laws first, the theorems they serve after them.
 pub mod AnswerLaws
 pub mod RefusalLaws
 pub mod WriteLaws

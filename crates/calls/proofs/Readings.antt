@@ -1,7 +1,7 @@
 -- Words of document 01 that could be read in a second way and that its sample leaves open, as far as they are about calls: each case is a call
 -- beside the outcome that the words give, closed by computation. B3 and C1 to C6 number these readings. Beside them stand refusals 1 and 6 to 16 with
 -- their nearest accepted neighbours, their order, and what calls leave. The lists of the layers below are over data and over the conditions of
--- refusals 2 to 5. The expected outcomes are written from the document. Assumes nothing.
+-- single refusals; the first part here joins them, from bytes to rows. The expected outcomes are written from the document. Assumes nothing.
 use Prim.Native.Nat.{ℕ, suc, _-_, _*_}
 use mathlib.Core.Path.{refl}
 use mathlib.Core.List.{List, [], _∷_, _++_, flatten}
@@ -78,12 +78,15 @@ joinedCases =
     -- signs 0 and 3, and 1 and 2 below and above
     ∷ case (detaching (leaf E (plain 5) unbounded) (eAt 4)) doesNeither
     ∷ case (detaching (leaf E (plain 5) unbounded) (eAt 5)) (occursAt 5)
+    ∷ case (detaching (leaf E (plus F 3) unbounded) (fAt 5 ++ eAt 7)) doesNeither
     ∷ case (detaching (leaf E (plus F 3) unbounded) (fAt 5 ++ eAt 8)) (occursAt 8)
     ∷ case (detaching (leaf E (minus F 3) unbounded) (eAt 17 ++ fAt 20)) (occursAt 20)
     ∷ case (detaching (leaf E (plain 0) (plus F 3)) (fAt 5 ++ eAt 8)) (failsAt 8)
     ∷ case (detaching (leaf E (plain 0) (minus F 3)) (eAt 17 ++ fAt 20)) (failsAt 20)
     -- forms 1 to 4, of schema 0; 5 with the largest numbers there are, which are not cut to 32 bits
-    ∷ case (citing (leaf E (plus (created 0) 3) unbounded) (sAt 4 ++ eAt 7)) (rows (row 1 4 ∷ row 2 7 ∷ rowOn 1 7 1 4 ∷ rowOn 1 7 2 7 ∷ []))
+    ∷ case
+    (reported (norm 2 E10 F20 nothing ++ schema 2 0 0 0 always (leaf (created 0) (plain 0) unbounded) nothing) (sAt 0 ++ eAt 5 ++ fAt 8))
+    (rows (row 1 5 ∷ row 2 8 ∷ rowOn 1 7 1 0 ∷ rowOn 1 7 2 5 ∷ []))
     ∷ case
     (citing (leaf (detached 0) (plain 0) unbounded) (sAt 0 ++ eAt 5 ++ fAt 8))
     (rows (row 1 0 ∷ row 2 5 ∷ row 4 8 ∷ rowOn 1 7 1 0 ∷ rowOn 1 7 2 5 ∷ []))
@@ -124,6 +127,8 @@ termsCases =
     3
     ∷ terms (apartWith (leaf X (plain 0) unbounded) ++ schema 2 0 0 0 (leaf (created 1) (plain 0) unbounded) always always) 4
     ∷ terms (apartWith (leaf (created 1) (plain 0) unbounded) ++ schema 2 2 1 1 always always always) 4
+    -- 5, where nothing before it holds
+    ∷ terms (apartWith (leaf X (plain 0) unbounded)) 5
     ∷ []
 
 -- a norm on S without leaves, for the calls on logs

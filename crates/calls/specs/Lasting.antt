@@ -26,7 +26,7 @@ unfoldable pub usedAfter : ℕ → ℕ → ℕ → ℕ
 usedAfter zero returned used = returned
 usedAfter (suc n) returned used = used
 
--- the held log after an append with this outcome: the buffer that it left, and the used length that goes on
+-- the held log after an append with this outcome: the buffer that it left, and the used length from then on
 unfoldable pub heldAfter : HeldLog → Outcome → HeldLog
 heldAfter held o = record { buffer = o .left; used = usedAfter (o .answer .number) (o .answer .value) (held .used) }
 

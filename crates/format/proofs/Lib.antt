@@ -1,4 +1,4 @@
--- Proofs over the format. Laws first, the theorems they serve behind them.
+-- Proofs over the format. Laws first, the theorems they serve after them.
 pub mod NumberLaws
 pub mod ReaderLaws
 pub mod GrammarLaws

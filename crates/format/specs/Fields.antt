@@ -59,7 +59,8 @@ leafOf body =
     bind (boundOf body 9) λ u.
     some (record { event = e; lower = l; upper = u })
 
--- what a leaf stands for whose form or sign names nothing (refusal 3 turns it away): an open lower bound lets nothing in, an open upper one is never reached
+-- stands in for a leaf whose form or sign names nothing, which is refused 3: it never occurs, since an open lower bound lets nothing in, and never
+-- fails, since an open upper one is not reached
 unfoldable pub neither : Leaf
 neither = record { event = Kind 0; lower = Open; upper = Open }
 

@@ -1,6 +1,6 @@
--- Demand 3 for calls as they were made, one after another; which calls these are is left open. Document 00, demand 3, in the words that
--- document 01 gives for it after the table of 'Calls'. The model's Lasting states it of the definitions of calls 3 and 4, for every width of a
--- value; here it is about what calls returned and left, at the width that the code has. Nothing is asked of the elements: a list holds any
+-- Demand 3 for calls as they were made, one after another; which calls were made is a parameter. Document 00, demand 3, in the words that
+-- document 01 gives for it after the table of 'Calls'. Lasting of the crate calls states it of the definitions of calls 3 and 4, for every width of a
+-- value; here it is about what calls returned and left, at the width that the code has. The elements need not be bytes: a list holds any
 -- numbers. Assumes nothing: these are definitions.
 use Prim.Native.Nat.{ℕ, _≤_}
 use mathlib.Core.Path.{_≡_}

@@ -1,5 +1,5 @@
--- Calls 3 and 4 as they were made: with every result, and every buffer or page at exit, that the call's contract allows. A contract is taken in
--- the reading that the toolchain makes of it, as a caller learns it (`Learnt`). Assumes nothing: these are definitions.
+-- Calls 3 and 4 as they were made: with every result, and every buffer or page at exit, that the call's contract allows. A contract is taken
+-- as the toolchain states it to a caller (`Learnt`). Assumes nothing: these are definitions.
 use Prim.Native.Nat.{ℕ}
 use mathlib.Core.Path.{_≡_}
 use mathlib.Core.List.{List}
@@ -22,9 +22,9 @@ use Rattle.lasting.specs.Demand.{AppendRelation, ReportRelation}
 abbrev pub AppendContract : Type 0 → Type 1
 AppendContract A = (κs : Lfts 3) → Dens κs appendKinds.ps → A → AtExit (endedOf 3 appendKinds.ps appendKinds.r) κs → Type 0
 
--- a call of which this is said, where a result stands for an answer (call 3)
+-- a call that meets such a contract; answerOf gives the answer that a result stands for (call 3)
 pub record AppendBy (A : Type 0) (contract : AppendContract A) (answerOf : A → Answer) (terms : List ℕ) (held : HeldLog) (event : List ℕ) (outcome : Outcome) : Type 0 where
-  -- for how long is lent what is lent
+  -- the lifetimes of the lent slices
   pub lifetimes : Lfts 3
   -- the arguments
   pub lent : Dens lifetimes appendKinds.ps
@@ -51,9 +51,9 @@ pub record AppendBy (A : Type 0) (contract : AppendContract A) (answerOf : A →
 abbrev pub ReportContract : Type 0 → Type 1
 ReportContract A = (κs : Lfts 3) → Dens κs reportKinds.ps → A → AtExit (endedOf 3 reportKinds.ps reportKinds.r) κs → Type 0
 
--- a call of which this is said, where a result stands for an answer (call 4)
+-- a call that meets such a contract; answerOf gives the answer that a result stands for (call 4)
 pub record ReportBy (A : Type 0) (contract : ReportContract A) (answerOf : A → Answer) (terms : List ℕ) (held : HeldLog) (m : ℕ) (page : List ℕ) (outcome : Outcome) : Type 0 where
-  -- for how long is lent what is lent
+  -- the lifetimes of the lent slices
   pub lifetimes : Lfts 3
   -- the arguments
   pub lent : Dens lifetimes reportKinds.ps

@@ -1,4 +1,4 @@
--- Proofs over the meaning. Laws first, the theorems they serve behind them.
+-- Proofs over the meaning. Laws first, the theorems they serve after them.
 pub mod BoolLaws
 pub mod ListLaws
 pub mod MemberLaws

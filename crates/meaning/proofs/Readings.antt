@@ -1,6 +1,6 @@
 -- Words of document 01 that could be read in a second way and that its sample leaves open, as far as they are about terms and records, not about
 -- bytes: each case is a log under terms, given as data, beside the rows that the words give, closed by computation. A1 to A13 number these readings.
--- Beside them stand the connectives, each type of norm, each sign of a bound, citations, the order of rows, and what refusals 8, 9, 12, 13 and 16 ask of
+-- Beside them stand the connectives, each type of norm, each sign of a bound, citations, the order of rows, and what refusals 8, 9, 12 and 16 ask of
 -- records. The expected outcomes are written from the document. Assumes nothing.
 use Prim.Native.Nat.{ℕ}
 use mathlib.Core.Path.{refl}

@@ -1,5 +1,5 @@
 -- What a reader must believe, first layer of three: what terms and records mean. It knows no bytes. The layers above are `format`, how terms,
--- records and rows stand in bytes, and `calls`, what each call comes to.
+-- records and rows stand in bytes, and `calls`, what each call comes to. Together the three are called the model.
 --
 -- Each file names the sections of document 01 that it stands for; the words in brackets at the end of a comment name the place:
 --     'Terms and log'         sentence 1 and 2, item 01 to item 07 (items, Terms items), Grammar, Citation, log record

@@ -134,7 +134,7 @@ stageFrom Violated Authorization c r u = Never
 stageFrom Violated Prohibition c r u = andOf (andOf c r) u .occurs
 stageFrom Violated Power c r u = Never
 
--- a stage's time from the times of the stages below it: not before its subject, and each clause at its own rank (stages, Citation)
+-- a stage's time from the times of other stages: not before its subject's stamp; each clause sees stages of smaller rank only (stages, Citation)
 unfoldable pub stageStep : StageTimes → Terms → Log → StageTimes
 stageStep times terms log s j subject =
     let schema = schemaAt terms j in

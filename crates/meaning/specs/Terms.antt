@@ -1,4 +1,4 @@
--- Terms: event kinds and norm schemas, as accepted bytes stand for them. Nothing here knows of bytes or lengths.
+-- Terms: the event kinds and norm schemas that accepted bytes stand for. Nothing here knows of bytes or lengths.
 -- Document 01, 'Terms and log', 'Terms items', 'Grammar' and 'Citation'. Assumes nothing: these are definitions.
 use Prim.Native.Nat.{ℕ, _+_, _*_}
 use mathlib.Core.List.{List, [], _∷_, _++_}
@@ -43,7 +43,7 @@ pub record Schema : Type 0 where
   -- the clause u
   pub consequent : Expr Leaf
 
--- terms (Grammar): kinds and schemas, each told by its place
+-- terms (Grammar): kinds and schemas, each identified by its place
 pub record Terms : Type 0 where
   -- the items 01, in file order
   pub kinds : List EventKind

@@ -28,7 +28,7 @@ unfoldable pub from : ℕ → Time → Time
 from l (At n) = cond (leb l n) (At n) Never
 from l Never = Never
 
--- what f makes of a known-time, but not before it; none where nothing is known (bounds, leaf occurs)
+-- the time that f gives for a known-time, or the known-time where that is later; none where nothing is known (bounds, leaf occurs)
 unfoldable pub onceKnown : Time → (ℕ → Time) → Time
 onceKnown (At g) f = laterOf (At g) (f g)
 onceKnown Never f = Never
@@ -42,6 +42,6 @@ ifNever (At n) a b = b
 unfoldable pub lastMinute : ℕ
 lastMinute = 4294967294
 
--- a minute as a time, or none where it is past the last (limit); only an upper bound's value can be
+-- a minute as a time, or none where it is past the last (limit); only an upper bound's value can be that late
 unfoldable pub cut : ℕ → Time
 cut n = cond (leb n lastMinute) (At n) Never

@@ -1,4 +1,4 @@
-// The types that the engine's code and its definitions share. No call stands here.
+// The types that the engine's code and its definitions share; those of answers are in `calls`. No call stands here.
 ghost use mathlib.Core.Path.{_≡_};
 ghost use Rattle.meaning.specs.Time.{laterOf, earlierOf};
 ghost use Rattle.meaning.specs.Stages.{stageOf, stageNumber};
