@@ -2,8 +2,8 @@
 use mathlib.Core.Path.{refl}
 use borrow.Author.Needs.{needs}
 use Rattle.calls.specs.Answers.{packed}
-use Rattle.service.proofs.pack.Statement.{statement}
-use Rattle.service.proofs.pack.Tie as tie
+use Rattle.packing.proofs.pack.Statement.{statement}
+use Rattle.packing.proofs.pack.Tie as tie
 
 returns : tie.Need-returns
 unfolding packed

@@ -1,8 +1,8 @@
 -- `pack_appended` meets its contract: case by case, number and length. Assumes nothing.
 use borrow.Author.Needs.{needs}
 use Rattle.calls.specs.Answers.{appendedAnswer}
-use Rattle.service.proofs.pack_appended.Statement.{statement}
-use Rattle.service.proofs.pack_appended.Tie as tie
+use Rattle.packing.proofs.pack_appended.Statement.{statement}
+use Rattle.packing.proofs.pack_appended.Tie as tie
 
 returns : tie.Need-returns
 unfolding appendedAnswer

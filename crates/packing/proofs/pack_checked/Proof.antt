@@ -1,8 +1,8 @@
 -- `pack_checked` meets its contract: case by case, number and 0. Assumes nothing.
 use borrow.Author.Needs.{needs}
 use Rattle.calls.specs.Answers.{checkedAnswer}
-use Rattle.service.proofs.pack_checked.Statement.{statement}
-use Rattle.service.proofs.pack_checked.Tie as tie
+use Rattle.packing.proofs.pack_checked.Statement.{statement}
+use Rattle.packing.proofs.pack_checked.Tie as tie
 
 returns : tie.Need-returns
 unfolding checkedAnswer

@@ -1,8 +1,8 @@
 -- `pack_reported` meets its contract: case by case, number and count. Assumes nothing.
 use borrow.Author.Needs.{needs}
 use Rattle.calls.specs.Answers.{reportedAnswer}
-use Rattle.service.proofs.pack_reported.Statement.{statement}
-use Rattle.service.proofs.pack_reported.Tie as tie
+use Rattle.packing.proofs.pack_reported.Statement.{statement}
+use Rattle.packing.proofs.pack_reported.Tie as tie
 
 returns : tie.Need-returns
 unfolding reportedAnswer
