@@ -16,12 +16,9 @@ use Rattle.format.proofs.CaseBytes.{word, kind, schema, leaf, and, or, except, 
 use Rattle.calls.proofs.Computes.{computes}
 use Rattle.calls.proofs.Sample.{rest, gives, told}
 
--- call 4 on a whole log at a moment, with a page of 144 bytes, which holds eight rows; and at the last moment there is
-abbrev reportedAt : ℕ → List ℕ → List ℕ → Outcome
-reportedAt m terms log = report valueWidth terms log (length log) m (rest 144)
-
+-- call 4 on a whole log at the last moment there is, with a page of 144 bytes, which holds eight rows
 abbrev reported : List ℕ → List ℕ → Outcome
-reported = reportedAt 4294967295
+reported terms log = report valueWidth terms log (length log) 4294967295 (rest 144)
 
 -- accepted, with these rows and every other byte of the page as it was
 abbrev rows : List (List ℕ) → Outcome
@@ -47,15 +44,11 @@ failsAt t = rows (row 1 0 ∷ row 3 t ∷ [])
 abbrev doesNeither : Outcome
 doesNeither = rows (row 1 0 ∷ [])
 
--- A6: schema 0 is violated at the last minute, 4,294,967,294; schema 1 detaches with F before that plus the offset
-abbrev endOfTime : ℕ → List ℕ
-endOfTime offset =
+-- schema 0 is violated at the last minute, 4,294,967,294; schema 1 detaches with F before that plus 2, which does not fit 32 bits
+abbrev endOfTime : List ℕ
+endOfTime =
     norm 1 always always (leaf E (plain 0) (plus S 2147483647))
-    ++ schema 2 0 0 0 always (leaf F (plain 0) (plus (violated 0) offset)) nothing
-
-abbrev endRows : List (List ℕ) → Outcome
-endRows more =
-    rows (row 1 2147483647 ∷ row 2 2147483647 ∷ row 5 4294967294 ∷ rowOn 1 7 1 2147483647 ∷ more)
+    ++ schema 2 0 0 0 always (leaf F (plain 0) (plus (violated 0) 2)) nothing
 
 -- an authorization as schema 0, always; E before 10; F before 20; and schema 1, whose detach clause cites it
 abbrev citing : List ℕ → List ℕ → Outcome
@@ -83,7 +76,7 @@ joinedCases =
     ∷ case (detaching (leaf E (minus F 3) unbounded) (eAt 17 ++ fAt 20)) (occursAt 20)
     ∷ case (detaching (leaf E (plain 0) (plus F 3)) (fAt 5 ++ eAt 8)) (failsAt 8)
     ∷ case (detaching (leaf E (plain 0) (minus F 3)) (eAt 17 ++ fAt 20)) (failsAt 20)
-    -- forms 1 to 4, of schema 0; 5 with the largest numbers there are, which are not cut to 32 bits
+    -- forms 1 to 4, of schema 0; 5, with the largest numbers there are
     ∷ case
     (reported (norm 2 E10 F20 nothing ++ schema 2 0 0 0 always (leaf (created 0) (plain 0) unbounded) nothing) (sAt 0 ++ eAt 5 ++ fAt 8))
     (rows (row 1 5 ∷ row 2 8 ∷ rowOn 1 7 1 0 ∷ rowOn 1 7 2 5 ∷ []))
@@ -94,7 +87,9 @@ joinedCases =
     ∷ case
     (citing (leaf (discharged 0) (plain 0) unbounded) (sAt 0 ++ eAt 5 ++ fAt 8))
     (rows (row 1 0 ∷ row 2 5 ∷ row 4 8 ∷ rowOn 1 7 1 0 ∷ rowOn 1 7 2 8 ∷ []))
-    ∷ case (reported (endOfTime 2) (sAt 2147483647 ++ fAt 2147483647)) (endRows (rowOn 1 7 2 4294967294 ∷ []))
+    ∷ case
+    (reported endOfTime (sAt 2147483647 ++ fAt 2147483647))
+    (rows (row 1 2147483647 ∷ row 2 2147483647 ∷ row 5 4294967294 ∷ rowOn 1 7 1 2147483647 ∷ rowOn 1 7 2 4294967294 ∷ []))
     -- numbers of four bytes; key and parties by their place among the attributes that the mask has, 2, 8 and 15
     ∷ case
     (reported (kind 0 0x8104 15 ++ schema 2 0 8 2 always always nothing) (event 0 0x01020304 (0x11121314 ∷ 0x21222324 ∷ 0x31323334 ∷ [])))
@@ -115,7 +110,7 @@ joinedCases =
 abbrev terms : List ℕ → ℕ → Case Outcome
 terms bytes number = case (told (checkTerms bytes)) (gives number 0 [])
 
--- refusal 1, and the order of refusals over the whole file
+-- refusal 1, and the order of refusals 2 to 5 over the whole file
 abbrev termsCases : List (Case Outcome)
 termsCases =
     -- 1 goes by the length alone
