@@ -22,7 +22,7 @@ use log::check_log;
 use report::report;
 use report::standing;
 use terms::check_terms;
-ghost use Prim.Native.Nat.{_≤_};
+ghost use Prim.Native.Nat.{_+_, _≤_};
 ghost use lib.ListN.{length};
 ghost use Rattle.io.specs.Counts.{Counts};
 
@@ -42,6 +42,9 @@ const LOG_ROOM: usize = 32800;
 const EVENT_ROOM: usize = 100;
 
 const PAGE_ROOM: usize = 2000;
+
+// And of log buffer and page as the calls leave them.
+const AFTER_ROOM: usize = 34800;
 
 // What comes of a case: whether the input has all of its bytes, and how many of its answers differ.
 struct Compared {
@@ -123,32 +126,27 @@ fn compare_append(
     tell(same_appended(head, appended, log, after), case, 3)
 }
 
-// Compares the calls of a case. How many answers differ.
+// Compares the calls of a case. Afterwards the log has to have the first bytes of `after`, the page those that follow. How many answers differ.
 fn compare(
     head: &[u8],
     terms: &[u8],
     log: &mut [u8],
     event: &[u8],
-    log_after: &[u8],
     page: &mut [u8],
-    page_after: &[u8],
+    after: &[u8],
     case: usize,
 ) -> usize
+    requires { ⌜ length (now log) ≤ length (now after) ⌝ }
     ensures { λ r. ⌜ r ≤ 5 ⌝ }
 {
+    let end = log.len();
     let checks = compare_checks(head, terms, log, case);
-    let reports = compare_reports(head, terms, log, page, page_after, case);
-    checks + reports + compare_append(head, terms, log, event, log_after, case)
+    let reports = compare_reports(head, terms, log, page, &after[end..], case);
+    checks + reports + compare_append(head, terms, log, event, &after[..end], case)
 }
 
 // Reads the bytes of a case into buffers of their lengths. Whether the input has them.
-fn read(
-    terms: &mut [u8],
-    log: &mut [u8],
-    event: &mut [u8],
-    log_after: &mut [u8],
-    page_after: &mut [u8],
-) -> bool {
+fn read(terms: &mut [u8], log: &mut [u8], event: &mut [u8], after: &mut [u8]) -> bool {
     if !fill(terms) {
         return false;
     }
@@ -158,10 +156,7 @@ fn read(
     if !fill(event) {
         return false;
     }
-    if !fill(log_after) {
-        return false;
-    }
-    fill(page_after)
+    fill(after)
 }
 
 // Reads the bytes of a case into buffers of their lengths and compares its calls.
@@ -170,14 +165,14 @@ fn compare_read(
     terms: &mut [u8],
     log: &mut [u8],
     event: &mut [u8],
-    log_after: &mut [u8],
     page: &mut [u8],
-    page_after: &mut [u8],
+    after: &mut [u8],
     case: usize,
 ) -> Compared
+    requires { ⌜ length (now log) ≤ length (now after) ⌝ }
     ensures { λ r. ⌜ r .different ≤ 5 ⌝ }
 {
-    if !read(terms, log, event, log_after, page_after) {
+    if !read(terms, log, event, after) {
         return Compared {
             whole: false,
             different: 0,
@@ -186,7 +181,7 @@ fn compare_read(
     clear(page);
     Compared {
         whole: true,
-        different: compare(head, terms, log, event, log_after, page, page_after, case),
+        different: compare(head, terms, log, event, page, after, case),
     }
 }
 
@@ -203,27 +198,24 @@ fn compare_sized(
     terms: &mut [u8],
     log: &mut [u8],
     event: &mut [u8],
-    log_after: &mut [u8],
     page: &mut [u8],
-    page_after: &mut [u8],
+    after: &mut [u8],
     case: usize,
 ) -> Compared
+    requires { ⌜ length (now log) + length (now page) ≤ length (now after) ⌝ }
     ensures { λ r. ⌜ r .different ≤ 5 ⌝ }
 {
     let of_terms = size(head, 0, terms);
     let of_log = size(head, 1, log);
     let of_event = size(head, 3, event);
-    let of_log_after = size(head, 1, log_after);
     let of_page = size(head, 4, page);
-    let of_page_after = size(head, 4, page_after);
     compare_read(
         head,
         &mut terms[..of_terms],
         &mut log[..of_log],
         &mut event[..of_event],
-        &mut log_after[..of_log_after],
         &mut page[..of_page],
-        &mut page_after[..of_page_after],
+        &mut after[..of_log + of_page],
         case,
     )
 }
@@ -242,17 +234,15 @@ fn compare_next(case: usize) -> Compared
     let mut terms = [0u8; TERMS_ROOM];
     let mut log = [0u8; LOG_ROOM];
     let mut event = [0u8; EVENT_ROOM];
-    let mut log_after = [0u8; LOG_ROOM];
     let mut page = [0u8; PAGE_ROOM];
-    let mut page_after = [0u8; PAGE_ROOM];
+    let mut after = [0u8; AFTER_ROOM];
     compare_sized(
         &head,
         &mut terms,
         &mut log,
         &mut event,
-        &mut log_after,
         &mut page,
-        &mut page_after,
+        &mut after,
         case,
     )
 }

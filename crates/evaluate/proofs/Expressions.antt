@@ -22,13 +22,13 @@ use Rattle.format.specs.Fields.{neither, exprAt, termsOf}
 use Rattle.meaning.proofs.Equation.{time-equation}
 use Rattle.format.proofs.FieldLaws.{neither-silent}
 use Rattle.grammar.specs.Places.{Starts}
-use Rattle.log.specs.Holds.{recordAt}
+use Rattle.records.specs.Holds.{recordAt}
 use Rattle.fields.specs.declared.Expression.{Expression}
 use Rattle.fields.specs.Decoded.{ExpressionAt}
 use Rattle.terms.proofs.ClauseLaws.{create-here, detach-here, consequent-here}
-use Rattle.times.specs.declared.Part.{Part}
-use Rattle.times.specs.declared.Part.the-variants.{Occurrence}
-use Rattle.times.specs.Parts.{partOf, detachPart, consequentPart}
+use Rattle.times.specs.declared.Needed.{Needed}
+use Rattle.times.specs.declared.Needed.the-variants.{Occurrence}
+use Rattle.times.specs.NeededTimes.{neededOf, detachNeeds, consequentNeeds}
 use Rattle.times.proofs.Needs.{stage-needs}
 use Rattle.evaluate.specs.Seen.{logIn, recordIn, stageIn, under}
 
@@ -87,10 +87,10 @@ module _ (terms log starts : List ℕ) (subject j : ℕ) (laid : Starts terms (f
   stage-whole s type stamp = rw (type, stamp, create-here terms starts j laid h, detach-here terms starts j laid h, consequent-here terms starts j laid h, time-equation)
 
   -- the same from those times of its clauses that it needs
-  pub stage-here : (s : Stage) {norm : NormType} {stamp : ℕ} {time : Time} {c r u : Times} {detach consequent : Part} → time ≡ laterOf (At stamp) (stageFrom s norm c r u)
-      → norm ≡ schemaAt (termsOf terms) j .type → stamp ≡ recordAt (termsOf terms) log subject .stamp → detach ≡ detachPart s → consequent ≡ consequentPart s norm
-      → c ≡ partOf Occurrence (clauseIn terms log starts subject (3 * j))
-      → r ≡ partOf detach (clauseIn terms log starts subject (3 * j + 1))
-      → u ≡ partOf consequent (clauseIn terms log starts subject (3 * j + 2))
+  pub stage-here : (s : Stage) {norm : NormType} {stamp : ℕ} {time : Time} {c r u : Times} {detach consequent : Needed} → time ≡ laterOf (At stamp) (stageFrom s norm c r u)
+      → norm ≡ schemaAt (termsOf terms) j .type → stamp ≡ recordAt (termsOf terms) log subject .stamp → detach ≡ detachNeeds s → consequent ≡ consequentNeeds s norm
+      → c ≡ neededOf Occurrence (clauseIn terms log starts subject (3 * j))
+      → r ≡ neededOf detach (clauseIn terms log starts subject (3 * j + 1))
+      → u ≡ neededOf consequent (clauseIn terms log starts subject (3 * j + 2))
       → time ≡ stageIn terms log subject s j
   stage-here s e type stamp d q c r u = rw (e, c, r, u, d, q, stage-needs) (stage-whole s type stamp)

@@ -63,7 +63,7 @@ module _ (terms log : List ℕ) (k subject : ℕ) where
     event-never (inr p) q = rw p (sym (ap (knownAs (Minus e n)) (sym here ∙ q)))
 
     module _ {g : ℕ} (at : r ≡ At g) {u : Edge} where
-      -- a bound behind its event is known when that happens
+      -- a bound after its event is known when that happens
       pub plus-known : b ≡ Plus e n → u ≡ Minute (g + n) → Known u g ≡ knownAs b (under known terms log k subject b)
       unfolding under known knownAs edgeOf
       plus-known p q = rw (p, q) (sym (ap (knownAs (Plus e n)) (sym here ∙ at)))

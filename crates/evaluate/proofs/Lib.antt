@@ -1,5 +1,5 @@
 -- Laws that the proofs of evaluation cite.
-pub mod Marked
+pub mod Happens
 pub mod Scan
 pub mod Leaves
 pub mod Expressions

@@ -1,3 +1,2 @@
 -- What evaluation promises, over the model's meaning.
 pub mod Seen
-pub mod Marks

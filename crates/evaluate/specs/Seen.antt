@@ -1,6 +1,7 @@
 -- The model's meaning of what bytes hold, for a clause of a rank and the subject at a place of the log. Assumes nothing: these are definitions.
-use Prim.Native.Nat.{ℕ}
+use Prim.Native.Nat.{ℕ, _*_, _≤_}
 use mathlib.Core.List.{List}
+use lib.ListN.{length}
 use Rattle.meaning.specs.declared.Time.{Time}
 use Rattle.meaning.specs.declared.Time.the-variants.{At, Never}
 use Rattle.meaning.specs.declared.Stage.{Stage}
@@ -8,11 +9,11 @@ use Rattle.meaning.specs.declared.Bound.{Bound}
 use Rattle.meaning.specs.Terms.{Terms}
 use Rattle.meaning.specs.Log.{Record, Log}
 use Rattle.meaning.specs.Meaning.{StageTimes, cited, edgeOf, stageTime}
+use Rattle.format.specs.Grammar.{fileOf}
 use Rattle.format.specs.Fields.{termsOf}
 use Rattle.format.specs.Records.{valueWidth, recordsIn}
-use Rattle.grammar.specs.Places.{Placed}
-use Rattle.log.specs.Holds.{recordAt}
-use Rattle.log.specs.Listed.{Indexed}
+use Rattle.records.specs.Holds.{Stands, recordAt}
+use Rattle.evaluate.specs.declared.Clause.{Clause}
 use Rattle.evaluate.specs.declared.KnownBound.{KnownBound}
 use Rattle.evaluate.specs.declared.KnownBound.the-variants.{Known, Unknown}
 
@@ -37,6 +38,9 @@ unfoldable pub knownAs : Bound → Time → KnownBound
 knownAs bound (At g) = Known (edgeOf bound g) g
 knownAs bound Never = Unknown
 
--- what evaluation is given: where the clauses of the terms start, and an index of the log
-abbrev pub Ready : List ℕ → ℕ → List ℕ → List ℕ → List ℕ → Type 0
-Ready terms kinds starts log index = Placed terms kinds starts × Indexed terms log kinds index
+-- a clause of the terms, and a subject that stands in the log
+pub record Posed (terms log : List ℕ) (clause : Clause) : Type 0 where
+  -- no clause ranks above the last
+  pub ranked : clause .rank ≤ 3 * length (fileOf terms .schemas)
+  -- the subject's record
+  pub stands : Stands (termsOf terms) log (clause .subject)

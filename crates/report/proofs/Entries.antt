@@ -20,10 +20,10 @@ use Rattle.meaning.specs.Rows.{entriesOf}
 use Rattle.format.specs.Grammar.{fileOf}
 use Rattle.format.specs.Fields.{termsOf}
 use Rattle.grammar.specs.Places.{Starts}
-use Rattle.log.specs.Holds.{recordAt}
-use Rattle.times.specs.declared.Part.{Part}
-use Rattle.times.specs.declared.Part.the-variants.{Occurrence, Both}
-use Rattle.times.specs.Parts.{partOf, consequentParts}
+use Rattle.records.specs.Holds.{recordAt}
+use Rattle.times.specs.declared.Needed.{Needed}
+use Rattle.times.specs.declared.Needed.the-variants.{Occurrence, Both}
+use Rattle.times.specs.NeededTimes.{neededOf, consequentNeedsAll}
 use Rattle.times.proofs.Needs.{rows-need}
 use Rattle.evaluate.specs.Seen.{stageIn}
 use Rattle.evaluate.proofs.Expressions.{clauseIn, stage-whole}
@@ -31,11 +31,11 @@ use Rattle.report.specs.Shown.{entriesIn}
 
 module _ (terms log starts : List ℕ) (subject j : ℕ) (laid : Starts terms (fileOf terms .schemas) starts) (h : j < length (fileOf terms .schemas)) where
   -- one entry: a stage's time, where it is before the moment
-  pub entry-here : (s : Stage) (m : ℕ) {norm : NormType} {stamp : ℕ} {c r u : Times} {needed : Part} {time entry : Time}
-      → norm ≡ schemaAt (termsOf terms) j .type → stamp ≡ recordAt (termsOf terms) log subject .stamp → needed ≡ consequentParts norm
-      → c ≡ partOf Occurrence (clauseIn terms log starts subject (3 * j))
-      → r ≡ partOf Both (clauseIn terms log starts subject (3 * j + 1))
-      → u ≡ partOf needed (clauseIn terms log starts subject (3 * j + 2))
+  pub entry-here : (s : Stage) (m : ℕ) {norm : NormType} {stamp : ℕ} {c r u : Times} {needed : Needed} {time entry : Time}
+      → norm ≡ schemaAt (termsOf terms) j .type → stamp ≡ recordAt (termsOf terms) log subject .stamp → needed ≡ consequentNeedsAll norm
+      → c ≡ neededOf Occurrence (clauseIn terms log starts subject (3 * j))
+      → r ≡ neededOf Both (clauseIn terms log starts subject (3 * j + 1))
+      → u ≡ neededOf needed (clauseIn terms log starts subject (3 * j + 2))
       → time ≡ laterOf (At stamp) (stageFrom s norm c r u) → entry ≡ before m time → entry ≡ before m (stageIn terms log subject s j)
   entry-here s m type stamp n c r u e b = rw (b, e, c, r, u, n, rows-need, stage-whole terms log starts subject j laid h s type stamp)
 

@@ -1,15 +1,14 @@
--- No more rows than five for each subject.
---     schema-most      of a schema
---     listed-count     how many subjects an index lists
---     none-listed      a subject kind that is not declared has none
+-- No more rows than five for each record of the subject kind.
+--     schema-most      of a schema, by the records that an index finds
 -- Assumes nothing.
-use Prim.Native.Nat.{ℕ, _+_, _*_, _-_, _≤_, _<_}
+use Prim.Native.Nat.{ℕ, suc, _+_, _*_, _≤_}
 use native.Mathlib.Omega.{arith}
-use mathlib.Core.Path.{_≡_, refl, sym, ap, _∙_}
-use mathlib.Core.Bool.{Bool, true, false, cond}
-use mathlib.Core.List.{List, [], _∷_, _++_, map, flatMap}
+use mathlib.Core.Path.{_≡_, refl, ap, sym, _∙_}
+use mathlib.Core.Bool.{Bool, true, false, cond, _&&_}
+use mathlib.Core.List.{List, [], _∷_, map, flatMap}
 use lib.Dec.{eqb, ltb}
-use lib.ListN.{length, getD, take, drop, length-append, length-take, length-drop, length-map}
+use lib.ListN.{length, length-append}
+use borrow.Author.Tests.{lt-ltb}
 use Rattle.meaning.specs.declared.Row.{Row}
 use Rattle.meaning.specs.declared.Stage.{Stage}
 use Rattle.meaning.specs.declared.Stage.the-variants.{Created, Detached, Expired, Discharged, Violated}
@@ -20,13 +19,16 @@ use Rattle.meaning.specs.Terms.{Terms, schemaAt}
 use Rattle.meaning.specs.Log.{Record, Log}
 use Rattle.meaning.specs.Meaning.{stageTime}
 use Rattle.meaning.specs.Rows.{rowOf, rowAt, isSubject, subjectRows, strike}
+use Rattle.format.specs.Bytes.{byteAt}
 use Rattle.format.specs.Fields.{termsOf}
 use Rattle.format.specs.Records.{valueWidth, recordsIn}
-use Rattle.log.specs.Holds.{recordAt}
-use Rattle.log.specs.Listed.{ofKind, Indexed}
-use Rattle.log.proofs.Index.{index-list}
-use Rattle.log.proofs.Keys.{kinds-declared}
-use Rattle.evaluate.proofs.Scan.{none-of-kind}
+use Rattle.format.proofs.WalkLaws.{kind-here}
+use Rattle.records.specs.Holds.{recordAt, valuesAt, placesIn}
+use Rattle.records.proofs.Places.{records-same}
+use Rattle.index.specs.declared.Mark.{Mark}
+use Rattle.index.specs.Words.{label}
+use Rattle.index.specs.Chains.{pushIf}
+use Rattle.index.specs.Asked.{hit, hits, found}
 use Rattle.evaluate.specs.Seen.{logIn}
 use Rattle.report.specs.Shown.{timely, rowsFrom}
 
@@ -46,40 +48,70 @@ unfolding rowAt
 row-one f (At t) = omega arith
 row-one f Never = omega arith
 
-module _ (t : Terms) (log : Log) (j : ℕ) where
+-- what finds all records of a kind: each has a stamp
+abbrev pub ofKind : ℕ → Mark
+ofKind kind = record { kind = kind; word = 0; value = 0 }
+
+-- each record of the kind is found, and no other
+kind-found : (t : Terms) (log : List ℕ) (kind at : ℕ) → hit t log (ofKind kind) at ≡ eqb (byteAt log at) kind
+unfolding hit label
+kind-found t log kind at = rw (lt-ltb 0 (suc (valuesAt t log at)) (omega arith)) (go (eqb (byteAt log at) kind))
+  where
+    go : (b : Bool) → (b && true) ≡ b
+    go true = refl
+    go false = refl
+
+module _ (t : Terms) (all : Log) (j : ℕ) where
   -- five stages give five rows at most
-  five : (r : Record) → length (flatMap (λ s. rowAt (rowOf t j r s) (stageTime t log s j r)) stages) ≤ 5
+  five : (r : Record) → length (flatMap (λ s. rowAt (rowOf t j r s) (stageTime t all s j r)) stages) ≤ 5
   unfolding stages flatMap
   five r = simp length-append (omega (arith, one Created, one Detached, one Expired, one Discharged, one Violated))
     where
-      one : (s : Stage) → length (rowAt (rowOf t j r s) (stageTime t log s j r)) ≤ 1
-      one s = row-one (rowOf t j r s) (stageTime t log s j r)
+      one : (s : Stage) → length (rowAt (rowOf t j r s) (stageTime t all s j r)) ≤ 1
+      one s = row-one (rowOf t j r s) (stageTime t all s j r)
 
-  -- records have no more than five for each that is a subject
-  records-most : (records : Log) → length (flatMap (subjectRows t log j) records) ≤ 5 * length (ofKind (schemaAt t j .subject) records)
-  unfolding ofKind subjectRows isSubject flatMap
-  records-most [] = omega arith
-  records-most (r ∷ records) = rw (length-append _ (flatMap (subjectRows t log j) records)) (go (eqb (r .kind) (schemaAt t j .subject)) (flatMap (λ s. rowAt (rowOf t j r s) (stageTime t log s j r)) stages) (flatMap (subjectRows t log j) records) (ofKind (schemaAt t j .subject) records) (five r) (records-most records))
+  -- a record has none but where it is a subject
+  record-most : (r : Record) {b : Bool} → b ≡ eqb (r .kind) (schemaAt t j .subject) → (at : ℕ) (older : List ℕ)
+      → length (subjectRows t all j r) + 5 * length older ≤ 5 * length (pushIf b at older)
+  unfolding subjectRows isSubject pushIf
+  record-most r e at older = rw e (go (eqb (r .kind) (schemaAt t j .subject)) (flatMap (λ s. rowAt (rowOf t j r s) (stageTime t all s j r)) stages) (five r))
     where
-      go : (b : Bool) (own rest : List Row) (others : Log) → length own ≤ 5 → length rest ≤ 5 * length others
-          → length {A = Row} (elim b [ true ↦ own | false ↦ [] ]) + length rest ≤ 5 * length {A = Record} (cond b (r ∷ others) others)
-      go true own rest others h k = omega arith
-      go false own rest others h k = omega arith
+      go : (b : Bool) (own : List Row) → length own ≤ 5 → length {A = Row} (elim b [ true ↦ own | false ↦ [] ]) + 5 * length older ≤ 5 * length (pushIf b at older)
+      go true own h = omega arith
+      go false own h = omega arith
 
--- a schema has no more than five for each of its subjects
-pub schema-most : (terms log : List ℕ) (j m : ℕ) → length (rowsFrom terms log j m 0) ≤ 5 * length (ofKind (schemaAt (termsOf terms) j .subject) (recordsIn valueWidth (termsOf terms) log))
+  module _ (log : List ℕ) where
+    -- the record at a place has none but where it is found
+    place-most : (at : ℕ) (older : List ℕ)
+        → length (subjectRows t all j (recordAt t log at)) + 5 * length older ≤ 5 * length (pushIf (hit t log (ofKind (schemaAt t j .subject)) at) at older)
+    place-most at older =
+        let kind = schemaAt t j .subject in
+        record-most (recordAt t log at) (kind-found t log kind at ∙ ap (λ (k : ℕ). eqb k kind) (sym (kind-here valueWidth t log at))) at older
+
+    -- the records at places
+    places-most : (places older : List ℕ)
+        → length (flatMap (subjectRows t all j) (map (recordAt t log) places)) + 5 * length older ≤ 5 * length (hits t log (ofKind (schemaAt t j .subject)) places older)
+    unfolding hits flatMap
+    places-most [] older = omega arith
+    places-most (at ∷ places) older =
+        let rest = flatMap (subjectRows t all j) (map (recordAt t log) places) in
+        let more = pushIf (hit t log (ofKind (schemaAt t j .subject)) at) at older in
+        rw (length-append (subjectRows t all j (recordAt t log at)) rest) (omega (arith, place-most at older, places-most places more))
+
+    -- the records of a log
+    records-most : length (flatMap (subjectRows t all j) (recordsIn valueWidth t log)) ≤ 5 * length (found t log (ofKind (schemaAt t j .subject)))
+    unfolding found
+    records-most = rw (← records-same t log) (omega (arith, places-most (placesIn t log) []))
+
+-- a schema has no more than five for each record of its subject kind
+pub schema-most : (terms log : List ℕ) (j m : ℕ) {kind : ℕ} → kind ≡ schemaAt (termsOf terms) j .subject
+    → length (rowsFrom terms log j m 0) ≤ 5 * length (found (termsOf terms) log (ofKind kind))
 unfolding rowsFrom timely
-schema-most terms log j m =
+schema-most terms log j m is =
     let records = recordsIn valueWidth (termsOf terms) log in
-    omega (arith, strike-le (λ (x : Row). x .time) m (flatMap (subjectRows (termsOf terms) (logIn terms log) j) records), records-most (termsOf terms) (logIn terms log) j records)
-
--- an index lists each record of a kind
-pub listed-count : (terms log index : List ℕ) {kinds : ℕ} (kind : ℕ) → Indexed terms log kinds index → kind < kinds
-    → length (ofKind kind (recordsIn valueWidth (termsOf terms) log)) ≡ getD index (kind + 1) 0 - getD index kind 0
-listed-count terms log index kind has h =
-    let l = index-list has kind h in
-    sym (ap length (l .2 .records)) ∙ simp (length-map, length-take, length-drop) (omega (arith, l .0, l .1))
-
--- a kind that is not declared has no records
-pub none-listed : (terms log : List ℕ) (kind : ℕ) → length (termsOf terms .kinds) ≤ kind → length (ofKind kind (recordsIn valueWidth (termsOf terms) log)) ≡ 0
-none-listed terms log kind past = ap length (none-of-kind _ kind _ past (kinds-declared (termsOf terms) log))
+    rw is
+    (omega (
+      arith,
+      strike-le (λ (x : Row). x .time) m (flatMap (subjectRows (termsOf terms) (logIn terms log) j) records),
+      records-most (termsOf terms) (logIn terms log) j log,
+    ))

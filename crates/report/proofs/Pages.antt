@@ -1,4 +1,4 @@
--- Bytes and rows put on a page one behind another.
+-- Bytes and rows put on a page one after another.
 --     u32-by, row-by        a number by its four bytes, a row by its numbers
 --     no-rows               what no row writes
 --     row-in, row-put       the row of an entry that is reached
@@ -45,14 +45,14 @@ u32-by page at n h =
     )
 
 -- a row by its numbers
-pub row-by : (page : List ℕ) (at : ℕ) (x : Row) → at + 18 ≤ length page → {stage : ℕ} {p q r s : List ℕ}
+pub row-by : (page : List ℕ) (at : ℕ) (x : Row) → at + rowLength valueWidth ≤ length page → {stage : ℕ} {p q r s : List ℕ}
     → stage ≡ stageNumber (x .stage)
-    → p ≡ written (set (set page at stage) (at + 1) (x .schema)) (at + 2) (bytesOf 4 (x .key))
-    → q ≡ written p (at + 2 + 4) (bytesOf 4 (x .privileged))
-    → r ≡ written q (at + 2 + 8) (bytesOf 4 (x .liable))
-    → s ≡ written r (at + 2 + 12) (bytesOf 4 (x .time))
+    → p ≡ written (set (set page at stage) (at + 1) (x .schema)) (at + 2) (bytesOf valueWidth (x .key))
+    → q ≡ written p (at + 2 + valueWidth) (bytesOf valueWidth (x .privileged))
+    → r ≡ written q (at + 2 + 2 * valueWidth) (bytesOf valueWidth (x .liable))
+    → s ≡ written r (at + 2 + 3 * valueWidth) (bytesOf 4 (x .time))
     → s ≡ written page at (rowBytes valueWidth x)
-unfolding bytesOf rowBytes
+unfolding bytesOf rowBytes rowLength
 row-by page at x h {stage} i a b d e =
     rw (
       e,
@@ -62,10 +62,10 @@ row-by page at x h {stage} i a b d e =
       ← i,
       written-one page at stage (omega arith),
       written-put page at (stage ∷ []) (at + 1) (x .schema) refl (omega arith),
-      written-more page at (stage ∷ x .schema ∷ []) (bytesOf 4 (x .key)) (at + 2) refl (omega arith),
-      written-more page at (stage ∷ x .schema ∷ bytesOf 4 (x .key)) (bytesOf 4 (x .privileged)) (at + 2 + 4) (omega arith) (omega arith),
-      written-more page at (stage ∷ x .schema ∷ (bytesOf 4 (x .key) ++ bytesOf 4 (x .privileged))) (bytesOf 4 (x .liable)) (at + 2 + 8) (omega arith) (omega arith),
-      written-more page at (stage ∷ x .schema ∷ (bytesOf 4 (x .key) ++ (bytesOf 4 (x .privileged) ++ bytesOf 4 (x .liable)))) (bytesOf 4 (x .time)) (at + 2 + 12) (omega arith) (omega arith),
+      written-more page at (stage ∷ x .schema ∷ []) (bytesOf valueWidth (x .key)) (at + 2) refl (omega arith),
+      written-more page at (stage ∷ x .schema ∷ bytesOf valueWidth (x .key)) (bytesOf valueWidth (x .privileged)) (at + 2 + valueWidth) (omega arith) (omega arith),
+      written-more page at (stage ∷ x .schema ∷ (bytesOf valueWidth (x .key) ++ bytesOf valueWidth (x .privileged))) (bytesOf valueWidth (x .liable)) (at + 2 + 2 * valueWidth) (omega arith) (omega arith),
+      written-more page at (stage ∷ x .schema ∷ (bytesOf valueWidth (x .key) ++ (bytesOf valueWidth (x .privileged) ++ bytesOf valueWidth (x .liable)))) (bytesOf 4 (x .time)) (at + 2 + 3 * valueWidth) (omega arith) (omega arith),
     )
 
 -- no row
@@ -84,9 +84,10 @@ module _ (f : ℕ → Row) {entry : Time} where
   unfolding rowAt
   row-in e = rw e
 
-  -- it is put, and the place behind it
+  -- it is put, and the place after it
   pub row-put : {t : ℕ} → entry ≡ At t → (page : List ℕ) (to : ℕ) {next : List ℕ} → next ≡ written page to (rowBytes valueWidth (f t))
-      → (to + 18 ≡ to + 18 * length (rowAt f entry)) × (next ≡ withRows page to (rowAt f entry))
+      → (to + rowLength valueWidth ≡ to + rowLength valueWidth * length (rowAt f entry)) × (next ≡ withRows page to (rowAt f entry))
+  unfolding rowLength
   row-put e page to n = rw (row-in e) (omega arith, n ∙ one-row page to _)
 
   -- one that is not reached has none
@@ -101,54 +102,56 @@ pub row-whose : (terms log : List ℕ) (subject schema : ℕ) (whose : Agreement
 unfolding rowIn
 row-whose terms log subject schema whose e s entry = ap (λ (f : ℕ → Row). rowAt f entry) (fun-ext λ t. sym (e s t))
 
--- rows have 18 bytes each
-rows-bytes : (rows : List Row) → length (flatMap (rowBytes valueWidth) rows) ≡ 18 * length rows
-unfolding rowLength
+-- rows have so many bytes each
+rows-bytes : (rows : List Row) → length (flatMap (rowBytes valueWidth) rows) ≡ rowLength valueWidth * length rows
 rows-bytes rows = rows-length valueWidth rows
 
--- rows put right behind those that were put
-rows-more : (page : List ℕ) (at : ℕ) (a b : List Row) (to : ℕ) → to ≡ at + 18 * length a → to ≤ length page
+-- rows put right after those that were put
+rows-more : (page : List ℕ) (at : ℕ) (a b : List Row) (to : ℕ) → to ≡ at + rowLength valueWidth * length a → to ≤ length page
     → withRows (withRows page at a) to b ≡ withRows page at (a ++ b)
-unfolding withRows
+unfolding withRows rowLength
 rows-more page at a b to e h = rw (flatMap-append (rowBytes valueWidth) a b) (written-more page at (flatMap (rowBytes valueWidth) a) (flatMap (rowBytes valueWidth) b) to (omega (arith, rows-bytes a)) h)
 
 -- rows that fit leave the page as long as it was
-rows-kept : (page : List ℕ) (at : ℕ) (rows : List Row) → at + 18 * length rows ≤ length page → length (withRows page at rows) ≡ length page
-unfolding withRows
+rows-kept : (page : List ℕ) (at : ℕ) (rows : List Row) → at + rowLength valueWidth * length rows ≤ length page → length (withRows page at rows) ≡ length page
+unfolding withRows rowLength
 rows-kept page at rows h = written-length page at (flatMap (rowBytes valueWidth) rows) (omega (arith, rows-bytes rows))
 
 -- of all rows to be put on a page from a place on, some are left for the page as it is now and the place reached
 pub record Left (page₀ : List ℕ) (from : ℕ) (all : List Row) (page : List ℕ) (to : ℕ) (left : List Row) : Type 0 where
   -- with those that are left it is the page with all
   pub same : withRows page₀ from all ≡ withRows page to left
-  -- the place behind them is the place behind all
-  pub place : to + 18 * length left ≡ from + 18 * length all
+  -- the place after them is the place after all
+  pub place : to + rowLength valueWidth * length left ≡ from + rowLength valueWidth * length all
   -- it is as long as it was
   pub long : length page ≡ length page₀
   -- there is room for all
-  pub fits : from + 18 * length all ≤ length page₀
+  pub fits : from + rowLength valueWidth * length all ≤ length page₀
 
 -- at first all are left
-pub left-all : (page : List ℕ) (from : ℕ) (all : List Row) → from + 18 * length all ≤ length page → Left page from all page from all
+pub left-all : (page : List ℕ) (from : ℕ) (all : List Row) → from + rowLength valueWidth * length all ≤ length page → Left page from all page from all
 left-all page from all h = record { same = refl; place = refl; long = refl; fits = h }
 
 module _ {page₀ page : List ℕ} {from to : ℕ} {all left : List Row} (l : Left page₀ from all page to left) where
   -- there is room for the next ones
-  pub left-room : (here behind : List Row) → left ≡ here ++ behind → to + 18 * length here ≤ length page
-  left-room here behind e = omega (arith, l .place, l .long, l .fits, ap length e, length-append here behind)
+  pub left-room : (here rest : List Row) → left ≡ here ++ rest → to + rowLength valueWidth * length here ≤ length page
+  unfolding rowLength
+  left-room here rest e = omega (arith, l .place, l .long, l .fits, ap length e, length-append here rest)
 
-  -- the next ones are put: those behind them are left
-  pub left-next : (here behind : List Row) → left ≡ here ++ behind → {next : List ℕ} {end : ℕ} → end ≡ to + 18 * length here → next ≡ withRows page to here
-      → Left page₀ from all next end behind
-  left-next here behind e {next} {end} i f =
-      let room = left-room here behind e in
+  -- the next ones are put: those after them are left
+  pub left-next : (here rest : List Row) → left ≡ here ++ rest → {next : List ℕ} {end : ℕ} → end ≡ to + rowLength valueWidth * length here → next ≡ withRows page to here
+      → Left page₀ from all next end rest
+  unfolding rowLength
+  left-next here rest e {next} {end} i f =
+      let room = left-room here rest e in
       record {
-        same = l .same ∙ rw (e, f) (sym (rows-more page to here behind end i (omega arith)));
-        place = omega (arith, l .place, ap length e, length-append here behind);
+        same = l .same ∙ rw (e, f) (sym (rows-more page to here rest end i (omega arith)));
+        place = omega (arith, l .place, ap length e, length-append here rest);
         long = ap length f ∙ rows-kept page to here room ∙ l .long;
         fits = l .fits;
       }
 
   -- none is left
-  pub left-end : left ≡ [] → (to ≡ from + 18 * length all) × (page ≡ withRows page₀ from all)
+  pub left-end : left ≡ [] → (to ≡ from + rowLength valueWidth * length all) × (page ≡ withRows page₀ from all)
+  unfolding rowLength
   left-end e = (omega (arith, l .place, ap length e), sym (l .same ∙ rw e (sym (no-rows page to))))

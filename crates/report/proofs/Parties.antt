@@ -1,12 +1,11 @@
 -- The row of a subject: key and parties are carried where refusal 3 does not hold.
 --     kind-is           the kind of a record is its first byte
---     head-inside       the head of a schema is within the terms
 --     parties-asked     what the code asks of the parties' values
 --     row-is            the row by its values
 -- Assumes nothing.
 use Prim.Native.Nat.{ℕ, _+_, _-_, _*_, _≤_, _<_}
 use native.Mathlib.Omega.{arith}
-use mathlib.Core.Path.{_≡_, sym, _∙_}
+use mathlib.Core.Path.{_≡_, refl, sym, _∙_}
 use mathlib.Core.Bool.{true, false, not, _||_}
 use mathlib.Core.List.{List}
 use lib.Dec.{leb, ltb, eqb}
@@ -26,12 +25,12 @@ use Rattle.meaning.proofs.MemberLaws.{anyOf-none, numbers-mem}
 use Rattle.format.proofs.PlaceLaws.{byte-within}
 use Rattle.format.proofs.KindLaws.{head-wrong-here}
 use Rattle.format.proofs.WalkLaws.{kind-here}
-use Rattle.grammar.specs.Places.{noItems, Placed}
+use Rattle.grammar.specs.Places.{noItems, Starts}
 use Rattle.terms.specs.declared.Fault.the-variants.{Field}
 use Rattle.terms.specs.Questions.{schemaHas}
 use Rattle.terms.proofs.Steps.{schema-here, subject-here}
 use Rattle.terms.proofs.Faults.{field-faults, field-here}
-use Rattle.log.specs.Holds.{Stands, recordAt}
+use Rattle.records.specs.Holds.{Stands, recordAt}
 use Rattle.evaluate.specs.Seen.{recordIn}
 
 -- the record at a place is of the kind of its first byte
@@ -39,14 +38,10 @@ pub kind-is : (terms log : List ℕ) (at : ℕ) {kind : ℕ} → byteAt log at �
 unfolding recordIn
 kind-is terms log at e = kind-here valueWidth (termsOf terms) log at ∙ e
 
-module _ (terms starts : List ℕ) {kinds : ℕ} (n : ℕ) (placed : Placed terms kinds starts) (h : 3 * n < length starts) where
-  -- the schema is there
-  there : n < length (fileOf terms .schemas)
-  there = omega (arith, placed .1)
-
+module _ (terms starts : List ℕ) (n : ℕ) (laid : Starts terms (fileOf terms .schemas) starts) (there : n < length (fileOf terms .schemas)) where
   -- its head is within the terms
-  pub head-inside : (4 ≤ getD starts (3 * n) 0) × (getD starts (3 * n) 0 ≤ length terms)
-  head-inside = placed .2 n there .1 .head-inside
+  head-inside : (4 ≤ getD starts (3 * n) 0) × (getD starts (3 * n) 0 ≤ length terms)
+  head-inside = laid n there .1 .head-inside
 
   -- its parties are the third and the fourth byte of its head
   parties-here : (schemaAt (termsOf terms) n .privileged ≡ byteAt terms (getD starts (3 * n) 0 - 4 + 2))
@@ -54,7 +49,7 @@ module _ (terms starts : List ℕ) {kinds : ℕ} (n : ℕ) (placed : Placed term
   unfolding schemaFrom
   parties-here =
       let at = getD starts (3 * n) 0 - 4 in
-      rw (schema-here terms n there, placed .2 n there .1 .head-body) (byte-within terms at 2 4 (omega arith), byte-within terms at 3 4 (omega arith))
+      rw (schema-here terms n there, laid n there .1 .head-body) (byte-within terms at 2 4 (omega arith), byte-within terms at 3 4 (omega arith))
 
   -- refusal 3 does not hold at its head
   head-right : fieldWrong (fileOf terms) ≡ false → headWrong (termsOf terms) (getD (fileOf terms .schemas) n noItems .head) ≡ false
@@ -69,10 +64,10 @@ module _ (terms starts : List ℕ) {kinds : ℕ} (n : ℕ) (placed : Placed term
       (carries mask (byteAt terms (getD starts (3 * n) 0 - 4 + 2)) ≡ true) × (carries mask (byteAt terms (getD starts (3 * n) 0 - 4 + 3)) ≡ true)
   parties-carried right =
       let at = getD starts (3 * n) 0 - 4 in
-      let head = eqb (byteAt terms at) 0 || ltb 4 (byteAt terms at) || leb kinds (byteAt terms (at + 1)) in
+      let head = eqb (byteAt terms at) 0 || ltb 4 (byteAt terms at) || leb (length (fileOf terms .kinds)) (byteAt terms (at + 1)) in
       let privileged = carries (kindAt (termsOf terms) (byteAt terms (at + 1)) .mask) (byteAt terms (at + 2)) in
-      let wrong = or-false (head || not privileged) _ (rw (placed .2 n there .1 .head-body, head-wrong-here terms kinds at (placed .0)) at (head-right right)) in
-      rw (subject-here terms starts n (placed .2) there) (not-false _ (or-false head _ (wrong .0) .1), not-false _ (wrong .1))
+      let wrong = or-false (head || not privileged) _ (rw (laid n there .1 .head-body, head-wrong-here terms (length (fileOf terms .kinds)) at refl) at (head-right right)) in
+      rw (subject-here terms starts n laid there) (not-false _ (or-false head _ (wrong .0) .1), not-false _ (wrong .1))
 
   module _ (log : List ℕ) (subject : ℕ) (st : Stands (termsOf terms) log subject) (is : recordIn terms log subject .kind ≡ schemaAt (termsOf terms) n .subject) where
     -- the subject's byte is the schema's subject kind

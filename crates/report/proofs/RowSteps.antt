@@ -31,7 +31,7 @@ use Rattle.calls.specs.Calls.{rowsOf}
 use Rattle.meaning.proofs.StrikeLaws.{strike-append}
 use Rattle.meaning.proofs.RowLaws.{rowsAt, subjectRowsAt, strike-subject}
 use Rattle.format.proofs.WalkLaws.{kind-here}
-use Rattle.log.proofs.Steps.{Step}
+use Rattle.records.proofs.Steps.{Step}
 use Rattle.evaluate.specs.Seen.{logIn, recordIn}
 use Rattle.report.specs.Shown.{entriesIn, timely, recordRows, rowsFrom, schemasFrom}
 
@@ -63,7 +63,7 @@ module _ (terms log : List ℕ) where
         strike-subject (termsOf terms) (logIn terms log) m schema (recordIn terms log at)
         ∙ rw (is-subject schema at ∙ eq-eqb (byteAt log at) _ is, subjectRowsAt, e, append-nil)
 
-    -- the rows of the record at a place come before those of the records behind it
+    -- the rows of the record at a place come before those of the records after it
     pub rows-step : {end : ℕ} → Step (termsOf terms) log at end → rowsFrom terms log schema m at ≡ recordRows terms log schema m at ++ rowsFrom terms log schema m end
     unfolding rowsFrom recordRows timely recordIn flatMap
     rows-step here = rw (here .records) (strike-append (λ (x : Row). x .time) m _ _)
@@ -74,7 +74,7 @@ module _ (terms log : List ℕ) where
     rows-none e = rw e
 
   module _ (m j : ℕ) where
-    -- the rows of a schema come before those of the schemas behind it
+    -- the rows of a schema come before those of the schemas after it
     pub schemas-step : j < length (termsOf terms .schemas) → schemasFrom terms log m j ≡ rowsFrom terms log j m 0 ++ schemasFrom terms log m (j + 1)
     unfolding schemasFrom rowsFrom timely numbersFrom logIn flatMap
     schemas-step h =

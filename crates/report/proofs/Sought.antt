@@ -1,7 +1,7 @@
 -- The subject that a standing asks for, and what call 5 answers.
 --     sought-other, sought-key, sought-stamp
 --                                       whether a record is that subject
---     found-here, found-behind          the search, record by record
+--     found-here, found-after           the search, record by record
 --     standing-refused, standing-past, standing-nobody, standing-shown
 --                                       the answer: refused as call 2, by 15, by 16, or the entries
 -- Assumes nothing.
@@ -29,11 +29,11 @@ use Rattle.calls.specs.Answers.{refusalNumber, checkedAnswer, standingAnswer}
 use Rattle.calls.specs.Calls.{Check, refusal, logChecks, checkLog, noSchema, missing, standingSubject, keyChecks, entriesFor, standingAs, standing}
 use Rattle.calls.proofs.AnswerLaws.{refusal-positive}
 use Rattle.calls.proofs.StandingLaws.{refused-entries}
-use Rattle.log.specs.Holds.{recordAt}
-use Rattle.log.proofs.Steps.{Step}
+use Rattle.records.specs.Holds.{recordAt}
+use Rattle.records.proofs.Steps.{Step}
+use Rattle.index.specs.declared.Place.the-variants as place
 use Rattle.log.proofs.Checks.{log-refused}
 use Rattle.evaluate.specs.Seen.{logIn, recordIn}
-use Rattle.report.specs.declared.Place.the-variants as place
 use Rattle.report.specs.Shown.{entriesIn, FoundAt}
 use Rattle.report.proofs.RowSteps.{is-subject}
 
@@ -60,10 +60,10 @@ module _ {t : Terms} {log : List ℕ} {at end : ℕ} (here : Step t log at end) 
   unfolding find
   found-here is = rw (here .records, sym e ∙ is)
 
-  -- it does not: the search goes on behind it
-  pub found-behind : found ≡ false → find p (recordsIn valueWidth t (drop at log)) ≡ find p (recordsIn valueWidth t (drop end log))
+  -- it does not: the search goes on after it
+  pub found-after : found ≡ false → find p (recordsIn valueWidth t (drop at log)) ≡ find p (recordsIn valueWidth t (drop end log))
   unfolding find
-  found-behind is = rw (here .records, sym e ∙ is)
+  found-after is = rw (here .records, sym e ∙ is)
 
 module _ (terms log : List ℕ) (used schema key m : ℕ) where
   -- the refusals of call 2 come first

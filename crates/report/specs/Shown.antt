@@ -12,11 +12,11 @@ use Rattle.meaning.specs.Rows.{subjectRows, strike, subjectOf, entriesOf}
 use Rattle.format.specs.Bytes.{written}
 use Rattle.format.specs.Fields.{termsOf}
 use Rattle.format.specs.Records.{valueWidth, recordsIn, rowBytes}
-use Rattle.log.specs.Holds.{Stands}
+use Rattle.records.specs.Holds.{Stands}
+use Rattle.index.specs.declared.Place.{Place}
+use Rattle.index.specs.declared.Place.the-variants as place
 use Rattle.evaluate.specs.Seen.{logIn, recordIn}
 use Rattle.report.specs.declared.rows.Agreement.{Agreement}
-use Rattle.report.specs.declared.Place.{Place}
-use Rattle.report.specs.declared.Place.the-variants as place
 
 -- the entries of the subject at a place (call 5)
 unfoldable pub entriesIn : List ℕ → List ℕ → ℕ → ℕ → ℕ → Entries

@@ -1,29 +1,31 @@
 // The entries and the rows of subjects, schema by schema: counted, then written on a page.
 use crate::ROW_LENGTH;
+use evaluate::Clause;
 use evaluate::clause_times;
-use evaluate::norm_type;
-use fields::mask_of;
 use grammar::Reading;
-use log::VALUE_WIDTH;
-use log::key_at;
-use log::number_in;
-use log::read_record;
-use log::stamp_at;
-use log::value_at;
+use index::Mark;
+use index::count_with;
 use meaning::Entries;
 use meaning::Row;
 use meaning::Stage;
 use meaning::Time;
-use terms::head_at;
-use terms::subject_of;
-use times::Part;
+use records::Masked;
+use records::key_at;
+use records::read_record;
+use records::stamp_at;
+use records::value_of;
+use table::VALUE_WIDTH;
+use table::head_at;
+use table::mask_in;
+use table::norm_type;
+use table::schema_count;
+use table::subject_of;
+use times::Needed;
 use times::before;
-use times::consequent_parts;
+use times::consequent_needs_all;
 use times::stage_from;
 ghost use mathlib.Core.Path.{_≡_};
-ghost use mathlib.Core.Bool.{false};
 ghost use Prim.Native.Nat.{ℕ, _+_, _*_, _<_, _≤_};
-ghost use mathlib.Core.List.{List};
 ghost use lib.Dec.{ltb};
 ghost use lib.ListN.{length};
 ghost use Rattle.meaning.specs.declared.Row.{Row};
@@ -31,14 +33,21 @@ ghost use Rattle.meaning.specs.declared.Stage.{Stage};
 ghost use Rattle.meaning.specs.Terms.{schemaAt};
 ghost use Rattle.meaning.specs.Rows.{rowOf, rowAt};
 ghost use Rattle.format.specs.Bytes.{bytesOf, written};
-ghost use Rattle.format.specs.Grammar.{fileOf};
-ghost use Rattle.format.specs.Fields.{fieldWrong, termsOf};
-ghost use Rattle.format.specs.Records.{valueWidth, rowBytes};
-ghost use Rattle.grammar.specs.Places.{Placed};
-ghost use Rattle.log.specs.Holds.{Stands};
-ghost use Rattle.log.specs.Listed.{Numbered, Indexed};
-ghost use Rattle.evaluate.specs.Seen.{Ready, recordIn};
+ghost use Rattle.format.specs.Grammar.{schemasLimit, fileOf};
+ghost use Rattle.format.specs.Fields.{termsOf};
+ghost use Rattle.format.specs.Records.{valueWidth, rowLength, rowBytes};
+ghost use Rattle.table.specs.Table.{Read};
+ghost use Rattle.records.specs.Holds.{Stands};
+ghost use Rattle.index.specs.Chains.{indexLimit, Ready};
+ghost use Rattle.evaluate.specs.Seen.{recordIn};
 ghost use Rattle.report.specs.Shown.{entriesIn, rowBy, recordRows, rowsFrom, schemasFrom, withRows};
+
+// What is asked for: the subject at a place, under a schema, at a moment.
+pub(crate) struct Asked {
+    pub(crate) subject: usize,
+    pub(crate) schema: usize,
+    pub(crate) moment: u32,
+}
 
 // What all rows of a subject under a schema have in common.
 struct Agreement {
@@ -48,29 +57,34 @@ struct Agreement {
     liable: u32,
 }
 
-// The five entries of the subject at a place. Each clause is worked out once for all five.
-pub(crate) fn entries_of(
-    terms: &[u8],
-    kinds: usize,
-    starts: &[usize],
-    log: &[u8],
-    index: &[u16],
-    subject: usize,
-    schema: usize,
-    moment: u32,
-) -> Entries
-    requires { ⌜ Ready (now terms) kinds (now starts) (now log) (now index) × (3 * schema < length (now starts)) × Stands (termsOf (now terms)) (now log) subject ⌝ }
-    ensures { λ r. ⌜ r ≡ entriesIn (now (terms .entry)) (now (log .entry)) subject schema moment ⌝ }
+// The five entries of a subject. Each clause is worked out once for all five.
+pub(crate) fn entries_of(terms: &[u8], log: &[u8], table: &[u16], asked: Asked) -> Entries
+    requires { ⌜ Ready (now terms) (now log) (now table) ⌝ }
+    requires { ⌜ asked .schema < length (fileOf (now terms) .schemas) ⌝ }
+    requires { ⌜ Stands (termsOf (now terms)) (now log) (asked .subject) ⌝ }
+    ensures { λ r. ⌜ r ≡ entriesIn (now (terms .entry)) (now (log .entry)) (asked .subject) (asked .schema) (asked .moment) ⌝ }
 {
-    let norm = norm_type(terms, kinds, starts, schema);
+    let subject = asked.subject;
+    let moment = asked.moment;
+    let first = 3 * asked.schema;
+    let create = Clause {
+        subject,
+        rank: first,
+    };
+    let detach = Clause {
+        subject,
+        rank: first + 1,
+    };
+    let consequent = Clause {
+        subject,
+        rank: first + 2,
+    };
+    let norm = norm_type(terms, table, asked.schema);
     let stamp = stamp_at(log, subject);
-    let first = 3 * schema;
-    let create = Part::Occurrence;
-    let detach = Part::Both;
-    let needed = consequent_parts(norm);
-    let c = clause_times(terms, kinds, starts, log, index, subject, first, create);
-    let r = clause_times(terms, kinds, starts, log, index, subject, first + 1, detach);
-    let u = clause_times(terms, kinds, starts, log, index, subject, first + 2, needed);
+    let needed = consequent_needs_all(norm);
+    let c = clause_times(terms, log, table, create, Needed::Occurrence);
+    let r = clause_times(terms, log, table, detach, Needed::Both);
+    let u = clause_times(terms, log, table, consequent, needed);
     Entries {
         created: before(moment, stage_from(Stage::Created, norm, stamp, c, r, u)),
         detached: before(moment, stage_from(Stage::Detached, norm, stamp, c, r, u)),
@@ -81,7 +95,7 @@ pub(crate) fn entries_of(
 }
 
 // How many rows an entry has.
-fn shown(entry: Time) -> usize
+fn row_count(entry: Time) -> usize
     ensures { λ r. ⌜ ((f : ℕ → Row) → r ≡ length (rowAt f entry)) × (r ≤ 1) ⌝ }
 {
     match entry {
@@ -91,141 +105,122 @@ fn shown(entry: Time) -> usize
 }
 
 // How many rows the record at a place has under a schema.
-fn count_record(
-    terms: &[u8],
-    kinds: usize,
-    starts: &[usize],
-    log: &[u8],
-    index: &[u16],
-    at: usize,
-    schema: usize,
-    moment: u32,
-) -> usize
-    requires { ⌜ Ready (now terms) kinds (now starts) (now log) (now index) × (3 * schema < length (now starts)) × Stands (termsOf (now terms)) (now log) at ⌝ }
-    ensures { λ r. ⌜ (r ≡ length (recordRows (now (terms .entry)) (now (log .entry)) schema moment at)) × (r ≤ 5) ⌝ }
+fn count_record(terms: &[u8], log: &[u8], table: &[u16], asked: Asked) -> usize
+    requires { ⌜ Ready (now terms) (now log) (now table) ⌝ }
+    requires { ⌜ asked .schema < length (fileOf (now terms) .schemas) ⌝ }
+    requires { ⌜ Stands (termsOf (now terms)) (now log) (asked .subject) ⌝ }
+    ensures { λ r. ⌜ (r ≡ length (recordRows (now (terms .entry)) (now (log .entry)) (asked .schema) (asked .moment) (asked .subject))) × (r ≤ 5) ⌝ }
 {
-    if log[at] != subject_of(terms, kinds, starts, schema) {
+    let subject = asked.subject;
+    if log[subject] != subject_of(terms, table, asked.schema) {
         return 0;
     }
-    let entries = entries_of(terms, kinds, starts, log, index, at, schema, moment);
+    let entries = entries_of(terms, log, table, asked);
     let created = entries.created;
     let detached = entries.detached;
     let expired = entries.expired;
     let discharged = entries.discharged;
     let violated = entries.violated;
-    shown(created) + shown(detached) + shown(expired) + shown(discharged) + shown(violated)
+    row_count(created)
+        + row_count(detached)
+        + row_count(expired)
+        + row_count(discharged)
+        + row_count(violated)
 }
 
 // How many rows a schema has.
-fn count_schema(
-    terms: &[u8],
-    kinds: usize,
-    starts: &[usize],
-    log: &[u8],
-    index: &[u16],
-    schema: usize,
-    moment: u32,
-) -> usize
-    requires { ⌜ Ready (now terms) kinds (now starts) (now log) (now index) × (3 * schema < length (now starts)) × (length (now log) ≤ 32768) ⌝ }
-    ensures { λ r. ⌜ (r ≡ length (rowsFrom (now (terms .entry)) (now (log .entry)) schema moment 0)) × (r ≤ 32768) ⌝ }
+fn count_schema(terms: &[u8], log: &[u8], table: &[u16], schema: usize, moment: u32) -> usize
+    requires { ⌜ Ready (now terms) (now log) (now table) ⌝ }
+    requires { ⌜ schema < length (fileOf (now terms) .schemas) ⌝ }
+    ensures { λ r. ⌜ (r ≡ length (rowsFrom (now (terms .entry)) (now (log .entry)) schema moment 0)) × (r ≤ indexLimit) ⌝ }
 {
     let mut count: usize = 0;
     let mut at: usize = 0;
     while at < log.len() {
-        let Reading::To(end) = read_record(terms, kinds, log, at) else {
+        let Reading::To(end) = read_record(terms, log, table, at) else {
             return count;
         };
-        count += count_record(terms, kinds, starts, log, index, at, schema, moment);
+        let asked = Asked {
+            subject: at,
+            schema,
+            moment,
+        };
+        count += count_record(terms, log, table, asked);
         at = end;
     }
     count
 }
 
 // How many rows a report has.
-fn count_rows(
-    terms: &[u8],
-    kinds: usize,
-    starts: &[usize],
-    log: &[u8],
-    index: &[u16],
-    moment: u32,
-) -> usize
-    requires { ⌜ Ready (now terms) kinds (now starts) (now log) (now index) × (length (now log) ≤ 32768) ⌝ }
-    ensures { λ r. ⌜ (r ≡ length (schemasFrom (now (terms .entry)) (now (log .entry)) moment 0)) × (r ≤ 16 * 32768) ⌝ }
+fn count_rows(terms: &[u8], log: &[u8], table: &[u16], moment: u32) -> usize
+    requires { ⌜ Ready (now terms) (now log) (now table) ⌝ }
+    ensures { λ r. ⌜ (r ≡ length (schemasFrom (now (terms .entry)) (now (log .entry)) moment 0)) × (r ≤ schemasLimit * indexLimit) ⌝ }
 {
     let mut count: usize = 0;
     let mut schema: usize = 0;
-    while 3 * schema < starts.len() {
-        count += count_schema(terms, kinds, starts, log, index, schema, moment);
+    while schema < schema_count(table) {
+        count += count_schema(terms, log, table, schema, moment);
         schema += 1;
     }
     count
 }
 
-// No more rows than this has a schema: five for each of its subjects.
-fn most_of(terms: &[u8], kinds: usize, starts: &[usize], index: &[u16], schema: usize) -> usize
-    requires { ⌜ Placed (now terms) kinds (now starts) × (3 * schema < length (now starts)) × Numbered kinds (now index) ⌝ }
-    ensures { λ r. ⌜ ((log : List ℕ) → Indexed (now (terms .entry)) log kinds (now (index .entry)) → (m : ℕ) → length (rowsFrom (now (terms .entry)) log schema m 0) ≤ r) × (r ≤ 327680) ⌝ }
+// No more rows than this has a schema: five for each record of its subject kind.
+fn schema_rows_at_most(terms: &[u8], log: &[u8], table: &[u16], schema: usize) -> usize
+    requires { ⌜ Ready (now terms) (now log) (now table) ⌝ }
+    ensures { λ r. ⌜ ((m : ℕ) → length (rowsFrom (now (terms .entry)) (now (log .entry)) schema m 0) ≤ r) × (r ≤ 5 * indexLimit) ⌝ }
 {
-    let kind = subject_of(terms, kinds, starts, schema) as usize;
-    if kinds <= kind {
-        return 0;
-    }
-    5 * (number_in(index, kind + 1) - number_in(index, kind))
+    let subjects = Mark {
+        kind: subject_of(terms, table, schema),
+        word: 0,
+        value: 0,
+    };
+    5 * count_with(terms, log, table, subjects)
 }
 
 // No more rows than this has a report.
-fn most_rows(terms: &[u8], kinds: usize, starts: &[usize], index: &[u16]) -> usize
-    requires { ⌜ Placed (now terms) kinds (now starts) × Numbered kinds (now index) ⌝ }
-    ensures { λ r. ⌜ ((log : List ℕ) → Indexed (now (terms .entry)) log kinds (now (index .entry)) → (m : ℕ) → length (schemasFrom (now (terms .entry)) log m 0) ≤ r) × (r ≤ 16 * 327680) ⌝ }
+fn rows_at_most(terms: &[u8], log: &[u8], table: &[u16]) -> usize
+    requires { ⌜ Ready (now terms) (now log) (now table) ⌝ }
+    ensures { λ r. ⌜ ((m : ℕ) → length (schemasFrom (now (terms .entry)) (now (log .entry)) m 0) ≤ r) × (r ≤ schemasLimit * (5 * indexLimit)) ⌝ }
 {
     let mut most: usize = 0;
     let mut schema: usize = 0;
-    while 3 * schema < starts.len() {
-        most += most_of(terms, kinds, starts, index, schema);
+    while schema < schema_count(table) {
+        most += schema_rows_at_most(terms, log, table, schema);
         schema += 1;
     }
     most
 }
 
 // Whether a page is too short for the rows of a report. They are counted only where it could be.
-pub(crate) fn too_short(
-    terms: &[u8],
-    kinds: usize,
-    starts: &[usize],
-    log: &[u8],
-    index: &[u16],
-    moment: u32,
-    page: &[u8],
-) -> bool
-    requires { ⌜ Ready (now terms) kinds (now starts) (now log) (now index) × (length (now log) ≤ 32768) ⌝ }
-    ensures { λ r. ⌜ r ≡ ltb (length (now (page .entry))) (18 * length (schemasFrom (now (terms .entry)) (now (log .entry)) moment 0)) ⌝ }
+pub(crate) fn too_short(terms: &[u8], log: &[u8], table: &[u16], moment: u32, page: &[u8]) -> bool
+    requires { ⌜ Ready (now terms) (now log) (now table) ⌝ }
+    ensures { λ r. ⌜ r ≡ ltb (length (now (page .entry))) (rowLength valueWidth * length (schemasFrom (now (terms .entry)) (now (log .entry)) moment 0)) ⌝ }
 {
-    if ROW_LENGTH * most_rows(terms, kinds, starts, index) <= page.len() {
+    if ROW_LENGTH * rows_at_most(terms, log, table) <= page.len() {
         return false;
     }
-    page.len() < ROW_LENGTH * count_rows(terms, kinds, starts, log, index, moment)
+    page.len() < ROW_LENGTH * count_rows(terms, log, table, moment)
 }
 
 // Whose rows they are: the schema, the key and the parties of the subject at a place.
-fn agreement_of(
-    terms: &[u8],
-    kinds: usize,
-    starts: &[usize],
-    log: &[u8],
-    subject: usize,
-    schema: usize,
-) -> Agreement
-    requires { ⌜ Placed (now terms) kinds (now starts) × (3 * schema < length (now starts)) × Stands (termsOf (now terms)) (now log) subject × (fieldWrong (fileOf (now terms)) ≡ false) × (recordIn (now terms) (now log) subject .kind ≡ schemaAt (termsOf (now terms)) schema .subject) ⌝ }
+fn agreement_of(terms: &[u8], log: &[u8], table: &[u16], subject: usize, schema: usize) -> Agreement
+    requires { ⌜ Read (now terms) (now table) ⌝ }
+    requires { ⌜ schema < length (fileOf (now terms) .schemas) ⌝ }
+    requires { ⌜ Stands (termsOf (now terms)) (now log) subject ⌝ }
+    requires { ⌜ recordIn (now terms) (now log) subject .kind ≡ schemaAt (termsOf (now terms)) schema .subject ⌝ }
     ensures { λ r. ⌜ ((s : Stage) (t : ℕ) → rowBy r s t ≡ rowOf (termsOf (now (terms .entry))) schema (recordIn (now (terms .entry)) (now (log .entry)) subject) s t) ⌝ }
 {
-    let mask = mask_of(terms, kinds, log[subject]);
-    let head = head_at(starts, schema);
+    let carrier = Masked {
+        at: subject,
+        mask: mask_in(table, log[subject]),
+    };
+    let head = head_at(terms, table, schema);
     Agreement {
         schema: schema as u8,
-        key: key_at(terms, kinds, log, subject),
-        privileged: value_at(log, subject, mask, terms[head + 2]),
-        liable: value_at(log, subject, mask, terms[head + 3]),
+        key: key_at(terms, log, table, subject),
+        privileged: value_of(log, carrier, terms[head + 2]),
+        liable: value_of(log, carrier, terms[head + 3]),
     }
 }
 
@@ -242,7 +237,7 @@ fn put_u32(page: &mut [u8], at: usize, n: u32)
 
 // Puts a row on the page.
 fn put_row(page: &mut [u8], at: usize, row: Row)
-    requires { ⌜ at + 18 ≤ length (now page) ⌝ }
+    requires { ⌜ at + rowLength valueWidth ≤ length (now page) ⌝ }
     ensures { λ _. ⌜ now (page .exit) ≡ written (now (page .entry)) at (rowBytes valueWidth row) ⌝ }
 {
     let stage = row.stage;
@@ -254,10 +249,10 @@ fn put_row(page: &mut [u8], at: usize, row: Row)
     put_u32(page, at + 2 + 3 * VALUE_WIDTH, row.time);
 }
 
-// Writes the row of an entry, if it has one. The place behind it.
+// Writes the row of an entry, if it has one. The place after it.
 fn write_entry(page: &mut [u8], to: usize, agreement: Agreement, stage: Stage, entry: Time) -> usize
-    requires { ⌜ to + 18 * length (rowAt (rowBy agreement stage) entry) ≤ length (now page) ⌝ }
-    ensures { λ r. ⌜ (r ≡ to + 18 * length (rowAt (rowBy agreement stage) entry)) × (now (page .exit) ≡ withRows (now (page .entry)) to (rowAt (rowBy agreement stage) entry)) ⌝ }
+    requires { ⌜ to + rowLength valueWidth * length (rowAt (rowBy agreement stage) entry) ≤ length (now page) ⌝ }
+    ensures { λ r. ⌜ (r ≡ to + rowLength valueWidth * length (rowAt (rowBy agreement stage) entry)) × (now (page .exit) ≡ withRows (now (page .entry)) to (rowAt (rowBy agreement stage) entry)) ⌝ }
 {
     let Time::At(time) = entry else {
         return to;
@@ -274,32 +269,33 @@ fn write_entry(page: &mut [u8], to: usize, agreement: Agreement, stage: Stage, e
     to + ROW_LENGTH
 }
 
-// Writes the rows of the record at a place under a schema. The place behind them.
+// Writes the rows of the record at a place under a schema. The place after them.
 fn write_record(
     terms: &[u8],
-    kinds: usize,
-    starts: &[usize],
     log: &[u8],
-    index: &[u16],
-    at: usize,
-    schema: usize,
-    moment: u32,
+    table: &[u16],
+    asked: Asked,
     page: &mut [u8],
     to: usize,
 ) -> usize
-    requires { ⌜ Ready (now terms) kinds (now starts) (now log) (now index) × (3 * schema < length (now starts)) × Stands (termsOf (now terms)) (now log) at × (fieldWrong (fileOf (now terms)) ≡ false) × (to + 18 * length (recordRows (now terms) (now log) schema moment at) ≤ length (now page)) ⌝ }
-    ensures { λ r. ⌜ (r ≡ to + 18 * length (recordRows (now (terms .entry)) (now (log .entry)) schema moment at)) × (now (page .exit) ≡ withRows (now (page .entry)) to (recordRows (now (terms .entry)) (now (log .entry)) schema moment at)) ⌝ }
+    requires { ⌜ Ready (now terms) (now log) (now table) ⌝ }
+    requires { ⌜ asked .schema < length (fileOf (now terms) .schemas) ⌝ }
+    requires { ⌜ Stands (termsOf (now terms)) (now log) (asked .subject) ⌝ }
+    requires { ⌜ to + rowLength valueWidth * length (recordRows (now terms) (now log) (asked .schema) (asked .moment) (asked .subject)) ≤ length (now page) ⌝ }
+    ensures { λ r. ⌜ (r ≡ to + rowLength valueWidth * length (recordRows (now (terms .entry)) (now (log .entry)) (asked .schema) (asked .moment) (asked .subject))) × (now (page .exit) ≡ withRows (now (page .entry)) to (recordRows (now (terms .entry)) (now (log .entry)) (asked .schema) (asked .moment) (asked .subject))) ⌝ }
 {
-    if log[at] != subject_of(terms, kinds, starts, schema) {
+    let subject = asked.subject;
+    let schema = asked.schema;
+    if log[subject] != subject_of(terms, table, schema) {
         return to;
     }
-    let entries = entries_of(terms, kinds, starts, log, index, at, schema, moment);
+    let entries = entries_of(terms, log, table, asked);
     let created = entries.created;
     let detached = entries.detached;
     let expired = entries.expired;
     let discharged = entries.discharged;
     let violated = entries.violated;
-    let whose = agreement_of(terms, kinds, starts, log, at, schema);
+    let whose = agreement_of(terms, log, table, subject, schema);
     let to = write_entry(page, to, whose, Stage::Created, created);
     let to = write_entry(page, to, whose, Stage::Detached, detached);
     let to = write_entry(page, to, whose, Stage::Expired, expired);
@@ -307,39 +303,33 @@ fn write_record(
     write_entry(page, to, whose, Stage::Violated, violated)
 }
 
-// Writes the rows of a schema. The place behind them.
+// Writes the rows of a schema. The place after them.
 fn write_schema(
     terms: &[u8],
-    kinds: usize,
-    starts: &[usize],
     log: &[u8],
-    index: &[u16],
+    table: &[u16],
     schema: usize,
     moment: u32,
     page: &mut [u8],
     from: usize,
 ) -> usize
-    requires { ⌜ Ready (now terms) kinds (now starts) (now log) (now index) × (3 * schema < length (now starts)) × (fieldWrong (fileOf (now terms)) ≡ false) × (from + 18 * length (rowsFrom (now terms) (now log) schema moment 0) ≤ length (now page)) ⌝ }
-    ensures { λ r. ⌜ (r ≡ from + 18 * length (rowsFrom (now (terms .entry)) (now (log .entry)) schema moment 0)) × (now (page .exit) ≡ withRows (now (page .entry)) from (rowsFrom (now (terms .entry)) (now (log .entry)) schema moment 0)) ⌝ }
+    requires { ⌜ Ready (now terms) (now log) (now table) ⌝ }
+    requires { ⌜ schema < length (fileOf (now terms) .schemas) ⌝ }
+    requires { ⌜ from + rowLength valueWidth * length (rowsFrom (now terms) (now log) schema moment 0) ≤ length (now page) ⌝ }
+    ensures { λ r. ⌜ (r ≡ from + rowLength valueWidth * length (rowsFrom (now (terms .entry)) (now (log .entry)) schema moment 0)) × (now (page .exit) ≡ withRows (now (page .entry)) from (rowsFrom (now (terms .entry)) (now (log .entry)) schema moment 0)) ⌝ }
 {
     let mut to = from;
     let mut at: usize = 0;
     while at < log.len() {
-        let Reading::To(end) = read_record(terms, kinds, log, at) else {
+        let Reading::To(end) = read_record(terms, log, table, at) else {
             return to;
         };
-        to = write_record(
-            terms,
-            kinds,
-            starts,
-            log,
-            index,
-            at,
+        let asked = Asked {
+            subject: at,
             schema,
             moment,
-            page,
-            to,
-        );
+        };
+        to = write_record(terms, log, table, asked, page, to);
         at = end;
     }
     to
@@ -348,20 +338,19 @@ fn write_schema(
 // Writes all rows, from the page's first byte. How many there are.
 pub(crate) fn write_rows(
     terms: &[u8],
-    kinds: usize,
-    starts: &[usize],
     log: &[u8],
-    index: &[u16],
+    table: &[u16],
     moment: u32,
     page: &mut [u8],
 ) -> usize
-    requires { ⌜ Ready (now terms) kinds (now starts) (now log) (now index) × (fieldWrong (fileOf (now terms)) ≡ false) × (18 * length (schemasFrom (now terms) (now log) moment 0) ≤ length (now page)) ⌝ }
+    requires { ⌜ Ready (now terms) (now log) (now table) ⌝ }
+    requires { ⌜ rowLength valueWidth * length (schemasFrom (now terms) (now log) moment 0) ≤ length (now page) ⌝ }
     ensures { λ r. ⌜ (r ≡ length (schemasFrom (now (terms .entry)) (now (log .entry)) moment 0)) × (now (page .exit) ≡ withRows (now (page .entry)) 0 (schemasFrom (now (terms .entry)) (now (log .entry)) moment 0)) ⌝ }
 {
     let mut to: usize = 0;
     let mut schema: usize = 0;
-    while 3 * schema < starts.len() {
-        to = write_schema(terms, kinds, starts, log, index, schema, moment, page, to);
+    while schema < schema_count(table) {
+        to = write_schema(terms, log, table, schema, moment, page, to);
         schema += 1;
     }
     to / ROW_LENGTH

@@ -6,7 +6,7 @@ use native.Mathlib.Omega.{arith}
 use mathlib.Core.Path.{_≡_, refl}
 use mathlib.Core.Bool.{Bool, true, false}
 use mathlib.Core.List.{List, [], _∷_, flatMap}
-use lib.ListN.{length, length-append, length-map, take}
+use lib.ListN.{length, length-append, length-map, length-take, take}
 use Rattle.meaning.specs.declared.Time.{Time}
 use Rattle.meaning.specs.declared.Time.the-variants.{At, Never}
 use Rattle.meaning.specs.declared.Row.{Row}
@@ -25,7 +25,7 @@ use Rattle.format.proofs.GrammarLaws.{file-read}
 use Rattle.calls.proofs.RefusalLaws.{report-accepted}
 use Rattle.calls.proofs.WriteLaws.{report-refused, append-refused, report-keeps, append-keeps}
 use Rattle.terms.proofs.Faults.{schemas-count}
-use Rattle.report.proofs.Reports.{used-few}
+use Rattle.log.proofs.Checks.{used-short}
 
 -- where each element gives at most k others, all of them give at most k times as many
 few-each : {A B : Type 0} (k : ℕ) (f : A → List B) → ((x : A) → length (f x) ≤ k) → (l : List A) → length (flatMap f l) ≤ k * length l
@@ -92,5 +92,5 @@ report-below terms log used m page =
     below (report valueWidth terms log used m page .answer .number)
     (λ a.
     let fits = report-accepted valueWidth terms log used m page .0 a .0 .used-fits in
-    omega (arith, report-keeps valueWidth terms log used m page a .counted, few-rows terms log used m (used-few log used fits)))
+    omega (arith, report-keeps valueWidth terms log used m page a .counted, few-rows terms log used m (omega (arith, length-take used log, used-short log used fits))))
     (λ r. report-refused valueWidth terms log used m page r .nothing)

@@ -80,7 +80,7 @@ fn cites_from(k: usize, event: Event) -> bool
 }
 
 // Where the body of a schema's item 02 starts: right before its create clause.
-pub fn head_at(starts: &[usize], n: usize) -> usize
+fn head_at(starts: &[usize], n: usize) -> usize
     requires { ⌜ (3 * n < length (now starts)) × (4 ≤ getD (now starts) (3 * n) 0) ⌝ }
     ensures { λ r. ⌜ r ≡ getD (now (starts .entry)) (3 * n) 0 - 4 ⌝ }
 {
@@ -89,7 +89,7 @@ pub fn head_at(starts: &[usize], n: usize) -> usize
 }
 
 // The subject kind of a schema; past the last schema it is 0.
-pub fn subject_of(terms: &[u8], kinds: usize, starts: &[usize], schema: usize) -> u8
+fn subject_of(terms: &[u8], kinds: usize, starts: &[usize], schema: usize) -> u8
     requires { ⌜ Placed (now terms) kinds (now starts) ⌝ }
     ensures { λ r. ⌜ r ≡ schemaAt (termsOf (now (terms .entry))) schema .subject ⌝ }
 {
@@ -100,7 +100,7 @@ pub fn subject_of(terms: &[u8], kinds: usize, starts: &[usize], schema: usize) -
 }
 
 // The kind of the records by which an event happens.
-pub fn kind_of(terms: &[u8], kinds: usize, starts: &[usize], event: Event) -> u8
+fn kind_of(terms: &[u8], kinds: usize, starts: &[usize], event: Event) -> u8
     requires { ⌜ Placed (now terms) kinds (now starts) ⌝ }
     ensures { λ r. ⌜ r ≡ kindOf (termsOf (now (terms .entry))) event ⌝ }
 {

@@ -6,12 +6,12 @@ use Rattle.meaning.specs.declared.Stage.the-variants.{Created, Detached, Expire
 use Rattle.meaning.specs.declared.NormType.{NormType}
 use Rattle.meaning.specs.declared.NormType.the-variants.{Commitment, Authorization, Prohibition, Power}
 use Rattle.meaning.specs.Meaning.{andOf, orOf, exceptOf, stageFrom}
-use Rattle.times.specs.declared.Part.the-variants.{Occurrence, Both}
-use Rattle.times.specs.Parts.{partOf, detachPart, consequentPart, consequentParts}
+use Rattle.times.specs.declared.Needed.the-variants.{Occurrence, Both}
+use Rattle.times.specs.NeededTimes.{neededOf, detachNeeds, consequentNeeds, consequentNeedsAll}
 
 -- the parts of the clauses are enough
-pub stage-needs : (s : Stage) (norm : NormType) (c r u : Times) → stageFrom s norm (partOf Occurrence c) (partOf (detachPart s) r) (partOf (consequentPart s norm) u) ≡ stageFrom s norm c r u
-unfolding stageFrom andOf orOf exceptOf partOf
+pub stage-needs : (s : Stage) (norm : NormType) (c r u : Times) → stageFrom s norm (neededOf Occurrence c) (neededOf (detachNeeds s) r) (neededOf (consequentNeeds s norm) u) ≡ stageFrom s norm c r u
+unfolding stageFrom andOf orOf exceptOf neededOf
 stage-needs Created norm c r u = refl
 stage-needs Detached norm c r u = refl
 stage-needs Expired norm c r u = refl
@@ -25,8 +25,8 @@ stage-needs Violated Prohibition c r u = refl
 stage-needs Violated Power c r u = refl
 
 -- so are those that all stages together need
-pub rows-need : (s : Stage) (norm : NormType) (c r u : Times) → stageFrom s norm (partOf Occurrence c) (partOf Both r) (partOf (consequentParts norm) u) ≡ stageFrom s norm c r u
-unfolding stageFrom andOf orOf exceptOf partOf
+pub rows-need : (s : Stage) (norm : NormType) (c r u : Times) → stageFrom s norm (neededOf Occurrence c) (neededOf Both r) (neededOf (consequentNeedsAll norm) u) ≡ stageFrom s norm c r u
+unfolding stageFrom andOf orOf exceptOf neededOf
 rows-need Created norm c r u = refl
 rows-need Detached norm c r u = refl
 rows-need Expired norm c r u = refl

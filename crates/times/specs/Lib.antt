@@ -1,2 +1,2 @@
 -- Which times of its clauses a stage needs.
-pub mod Parts
+pub mod NeededTimes

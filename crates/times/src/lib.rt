@@ -8,13 +8,13 @@ ghost use mathlib.Core.Path.{_≡_};
 ghost use Prim.Native.Nat.{_+_, _-_};
 ghost use Rattle.meaning.specs.Time.{laterOf, before};
 ghost use Rattle.meaning.specs.Meaning.{fromEdge, beforeEdge, reached, andOf, orOf, exceptOf, stageFrom};
-ghost use Rattle.times.specs.Parts.{detachPart, consequentPart, consequentParts};
+ghost use Rattle.times.specs.NeededTimes.{detachNeeds, consequentNeeds, consequentNeedsAll};
 
 // The last minute that a time can have.
 pub const LAST_MINUTE: u64 = 4294967294;
 
 // Which of a clause's two times a stage needs.
-pub enum Part {
+pub enum Needed {
     Neither,
     Occurrence,
     Failure,
@@ -34,7 +34,7 @@ pub fn before(moment: u32, time: Time) -> Time
     Time::Never
 }
 
-// An edge behind a minute, by an offset.
+// An edge after a minute, by an offset.
 pub fn plus(minute: u32, offset: u32) -> Edge
     ensures { λ r. ⌜ r ≡ Edge.Minute (minute + offset) ⌝ }
 {
@@ -207,63 +207,63 @@ pub fn stage_from(
 }
 
 // What a stage needs of its detach clause.
-pub fn detach_part(stage: Stage) -> Part
-    ensures { λ r. ⌜ r ≡ detachPart stage ⌝ }
+pub fn detach_needs(stage: Stage) -> Needed
+    ensures { λ r. ⌜ r ≡ detachNeeds stage ⌝ }
 {
     match stage {
-        Stage::Created => Part::Neither,
-        Stage::Detached => Part::Occurrence,
-        Stage::Expired => Part::Failure,
-        Stage::Discharged => Part::Occurrence,
-        Stage::Violated => Part::Occurrence,
+        Stage::Created => Needed::Neither,
+        Stage::Detached => Needed::Occurrence,
+        Stage::Expired => Needed::Failure,
+        Stage::Discharged => Needed::Occurrence,
+        Stage::Violated => Needed::Occurrence,
     }
 }
 
 // What a discharge needs of its consequent clause.
-fn discharged_part(norm: NormType) -> Part
-    ensures { λ r. ⌜ r ≡ consequentPart Stage.Discharged norm ⌝ }
+fn discharged_needs(norm: NormType) -> Needed
+    ensures { λ r. ⌜ r ≡ consequentNeeds Stage.Discharged norm ⌝ }
 {
     match norm {
-        NormType::Commitment => Part::Occurrence,
-        NormType::Authorization => Part::Occurrence,
-        NormType::Prohibition => Part::Failure,
-        NormType::Power => Part::Occurrence,
+        NormType::Commitment => Needed::Occurrence,
+        NormType::Authorization => Needed::Occurrence,
+        NormType::Prohibition => Needed::Failure,
+        NormType::Power => Needed::Occurrence,
     }
 }
 
 // What a violation needs of its consequent clause.
-fn violated_part(norm: NormType) -> Part
-    ensures { λ r. ⌜ r ≡ consequentPart Stage.Violated norm ⌝ }
+fn violated_needs(norm: NormType) -> Needed
+    ensures { λ r. ⌜ r ≡ consequentNeeds Stage.Violated norm ⌝ }
 {
     match norm {
-        NormType::Commitment => Part::Failure,
-        NormType::Authorization => Part::Neither,
-        NormType::Prohibition => Part::Occurrence,
-        NormType::Power => Part::Neither,
+        NormType::Commitment => Needed::Failure,
+        NormType::Authorization => Needed::Neither,
+        NormType::Prohibition => Needed::Occurrence,
+        NormType::Power => Needed::Neither,
     }
 }
 
 // What a stage needs of its consequent clause.
-pub fn consequent_part(stage: Stage, norm: NormType) -> Part
-    ensures { λ r. ⌜ r ≡ consequentPart stage norm ⌝ }
+pub fn consequent_needs(stage: Stage, norm: NormType) -> Needed
+    ensures { λ r. ⌜ r ≡ consequentNeeds stage norm ⌝ }
 {
     match stage {
-        Stage::Created => Part::Neither,
-        Stage::Detached => Part::Neither,
-        Stage::Expired => Part::Neither,
-        Stage::Discharged => discharged_part(norm),
-        Stage::Violated => violated_part(norm),
+        Stage::Created => Needed::Neither,
+        Stage::Detached => Needed::Neither,
+        Stage::Expired => Needed::Neither,
+        Stage::Discharged => discharged_needs(norm),
+        Stage::Violated => violated_needs(norm),
     }
 }
 
 // What the stages of a norm type need of the consequent clause, all five together.
-pub fn consequent_parts(norm: NormType) -> Part
-    ensures { λ r. ⌜ r ≡ consequentParts norm ⌝ }
+pub fn consequent_needs_all(norm: NormType) -> Needed
+    ensures { λ r. ⌜ r ≡ consequentNeedsAll norm ⌝ }
 {
     match norm {
-        NormType::Commitment => Part::Both,
-        NormType::Authorization => Part::Occurrence,
-        NormType::Prohibition => Part::Both,
-        NormType::Power => Part::Occurrence,
+        NormType::Commitment => Needed::Both,
+        NormType::Authorization => Needed::Occurrence,
+        NormType::Prohibition => Needed::Both,
+        NormType::Power => Needed::Occurrence,
     }
 }

@@ -8,18 +8,18 @@ use Rattle.meaning.specs.Rows.{find, isSought, subjectOf}
 use Rattle.format.specs.Fields.{termsOf}
 use Rattle.format.specs.Records.{valueWidth, recordsIn}
 use Rattle.format.proofs.WalkLaws.{walk-end}
-use Rattle.log.proofs.Steps.{Step, step, stop}
+use Rattle.records.proofs.Steps.{Step, step, stop}
 use Rattle.evaluate.specs.Seen.{logIn, recordIn}
-use Rattle.report.proofs.Sought.{found-here, found-behind}
+use Rattle.report.proofs.Sought.{found-here, found-after}
 use Rattle.report.proofs.find_subject.Statement.{statement}
 use Rattle.report.proofs.find_subject.Tie as tie
 
 abbrev Inv-loop : tie.InvT-loop
-Inv-loop terms kinds starts log schema key moment at₀ at =
+Inv-loop terms log table schema key moment at₀ at =
     subjectOf (termsOf terms) (logIn terms log) schema key moment ≡ find (isSought (termsOf terms) schema key moment) (recordsIn valueWidth (termsOf terms) (drop at log))
 
 abbrev μ-loop : tie.MeasureT-loop
-μ-loop terms kinds starts log schema key moment at₀ at = length log - at
+μ-loop terms log table schema key moment at₀ at = length log - at
 
 loop-holds : tie.Need-loop-holds Inv-loop μ-loop
 unfolding subjectOf logIn
@@ -47,7 +47,7 @@ loop-again : tie.Need-loop-again Inv-loop μ-loop
 unfolding recordIn
 loop-again c =
     let turn = c .before .before in
-    turn .before .before .before .before .before .loop .inv ∙ found-behind (here turn) _ (c .before .is-sought .ensures) (c .if1 .left)
+    turn .before .before .before .before .before .loop .inv ∙ found-after (here turn) _ (c .before .is-sought .ensures) (c .if1 .left)
 
 returns-3 : tie.Need-returns-3 Inv-loop μ-loop
 unfolding find
@@ -62,11 +62,11 @@ find-subject-spec =
     Inv-loop
     μ-loop
     loop-holds
-    (λ c κs. search needs)
+    (λ c κs. c .before .before .before .before .before .pre .0)
     (λ c. search needs)
     (λ c. search needs)
     returns
-    (λ c κs. let start = c .before .before .before .before .before .before .before .before .before in (start .pre .0, here c .stands, start .pre .1))
+    (λ c κs. let start = c .before .before .before .before .before .before .before .before .before in (start .pre, here c .stands))
     returns-2
     (λ c. omega (arith, here (c .before .before) .stamped))
     loop-again

@@ -1,13 +1,10 @@
 -- `is_sought` meets its contract: the kind, then the key, then the stamp. Assumes nothing.
-use native.Mathlib.Omega.{arith}
 use mathlib.Core.Path.{_≡_, sym, _∙_}
 use borrow.Author.Needs.{needs}
 use Rattle.meaning.specs.Terms.{schemaAt}
 use Rattle.format.specs.Bytes.{byteAt}
 use Rattle.format.specs.Fields.{termsOf}
-use Rattle.format.specs.Records.{recordLength}
-use Rattle.log.proofs.Checks.{kinds-known}
-use Rattle.log.proofs.Steps.{stands-inside}
+use Rattle.records.proofs.Steps.{stands-inside, stands-stamped}
 use Rattle.report.proofs.Sought.{sought-other, sought-key, sought-stamp}
 use Rattle.report.proofs.is_sought.Statement.{statement}
 use Rattle.report.proofs.is_sought.Tie as tie
@@ -21,7 +18,7 @@ returns c =
 key-at-requires : tie.Need-key-at-requires
 key-at-requires c κs =
     let start = c .before .before .before .before .before .before in
-    (kinds-known (start .args .terms .now) (start .pre .2) (start .pre .0 .0), start .pre .1)
+    (start .pre .0 .0, start .pre .1)
 
 -- the record is of the kind
 same-kind : (c : tie.Else1) → let a = c .before .before .before .before .before .before .args in byteAt (a .log .now) (a .at) ≡ schemaAt (termsOf (a .terms .now)) (a .schema) .subject
@@ -34,8 +31,7 @@ returns-2 c =
     sym (sought-key (a .terms .now) (a .log .now) (a .schema) (a .key) (a .moment) (a .at) (same-kind (c .before .before)) (c .before .key-at .ensures) (c .if2 .taken))
 
 stamp-at-requires : tie.Need-stamp-at-requires
-unfolding recordLength
-stamp-at-requires c κs = let start = c .before .before .before .before .before .before .before .before in omega (arith, start .pre .1 .1)
+stamp-at-requires c κs = let start = c .before .before .before .before .before .before .before .before in stands-stamped _ (start .args .log .now) (start .args .at) (start .pre .1)
 
 returns-3 : tie.Need-returns-3
 returns-3 c =

@@ -1,15 +1,15 @@
 -- `clause_times` meets its contract, its calls within the cycle being smaller: one law for each part. Assumes nothing.
 use Prim.Native.Nat.{ℕ, _+_, _*_, _≤_, _<_}
 use native.Mathlib.Omega.{arith}
-use mathlib.Core.Path.{_≡_}
-use lib.ListN.{length}
+use mathlib.Core.Path.{_≡_, refl}
 use borrow.Author.Needs.{needs}
 use Rattle.format.specs.Grammar.{exprLimit}
-use Rattle.format.specs.Fields.{termsOf}
-use Rattle.log.specs.Holds.{Stands}
-use Rattle.times.specs.declared.Part.{Part}
-use Rattle.times.specs.Parts.{partOf}
-use Rattle.evaluate.specs.Seen.{Ready}
+use Rattle.times.specs.declared.Needed.{Needed}
+use Rattle.times.specs.NeededTimes.{neededOf}
+use Rattle.index.specs.Chains.{Ready}
+use Rattle.evaluate.specs.Seen.{Posed}
+use Rattle.table.proofs.TableLaws.{schemas-few}
+use Rattle.table.proofs.start_in.Reads as start-in
 use Rattle.evaluate.proofs.failure.Reads as failure
 use Rattle.evaluate.proofs.occurrence.Reads as occurrence
 use Rattle.evaluate.proofs.clause_times.Reads as clause-times
@@ -18,39 +18,38 @@ use Rattle.evaluate.proofs.+clause_times+failure+first+first_within+hap
 
 -- what the callees ask and promise
 abbrev claims : ℕ → lts.Claims
-claims t = (occurrence-below t, occurrence.Post, failure-below t, failure.Post)
+claims t = (start-in.Asked, start-in.Learnt, occurrence-below t, occurrence.Post, failure-below t, failure.Post)
 
 -- an expression of the clause may be asked for, where the part that is needed is told: it weighs less
-asks : (t : ℕ) (c : lts.After-shared-slice-known5 (claims t) (clause-times-entry t) clause-times.Post) (p : Part) → let a = c .before .before .before .before .before .args in a .part ≡ p
-    → a .rank * 512 + 257 < weight p (a .rank) → (a .rank * 512 + 31 * 8 + 9 < t)
-    × (Ready (a .terms .now) (a .kinds) (a .starts .now) (a .log .now) (a .index .now) × (a .rank ≤ length (a .starts .now)) × Stands (termsOf (a .terms .now)) (a .log .now) (a .subject) × (31 ≤ exprLimit))
+asks : (t : ℕ) (c : lts.After-start-in (claims t) (clause-times-entry t) clause-times.Post) (p : Needed) → let a = c .before .before .before .before .args in a .needed ≡ p
+    → a .clause .rank * 512 + 257 < weight p (a .clause .rank) → (a .clause .rank * 512 + 31 * 8 + 9 < t)
+    × (Ready (a .terms .now) (a .log .now) (a .table .now) × (Posed (a .terms .now) (a .log .now) (a .clause) × (31 ≤ exprLimit)))
 unfolding exprLimit
 asks t c p e h =
-    let s = c .before .before .before .before .before in
-    let same : weight p (s .args .rank) ≡ t = rw (← e) (s .pre .0) in
-    (omega (arith, same), (s .pre .1 .0, omega arith, s .pre .1 .2, omega arith))
+    let s = c .before .before .before .before in
+    let same : weight p (s .args .clause .rank) ≡ t = rw (← e) (s .pre .0) in
+    (omega (arith, same), (s .pre .1 .0, (s .pre .1 .1 .0, omega arith)))
 
 neither-returns : (t : ℕ) → lts.Need-returns (claims t) (clause-times-entry t) clause-times.Post
-unfolding partOf
+unfolding neededOf
 neither-returns t c = rw (c .enum-told .given .1)
 
 occurrence-returns : (t : ℕ) → lts.Need-returns-2 (claims t) (clause-times-entry t) clause-times.Post
-unfolding partOf exprLimit
-occurrence-returns t c = rw (c .before .enum-told2 .given .1, c .occurrence .ensures)
+unfolding neededOf exprLimit
+occurrence-returns t c = rw (c .before .enum-told2 .given .1, c .occurrence .ensures, c .before .before .before .start-in .ensures)
 
 failure-returns : (t : ℕ) → lts.Need-returns-3 (claims t) (clause-times-entry t) clause-times.Post
-unfolding partOf exprLimit
-failure-returns t c = rw (c .before .enum-told3 .given .1, c .failure .ensures)
+unfolding neededOf exprLimit
+failure-returns t c = rw (c .before .enum-told3 .given .1, c .failure .ensures, c .before .before .before .start-in .ensures)
 
 both-return : (t : ℕ) → lts.Need-returns-4 (claims t) (clause-times-entry t) clause-times.Post
-unfolding partOf exprLimit
-both-return t c = rw (c .before .before .enum-told4 .given .1, c .before .occurrence2 .ensures, c .failure2 .ensures)
+unfolding neededOf exprLimit
+both-return t c = rw (c .before .before .enum-told4 .given .1, c .before .occurrence2 .ensures, c .failure2 .ensures, c .before .before .before .before .start-in .ensures)
 
 pub clause-times-closed : {M : Type 1} (t : ℕ) → lts.Closed (claims t) (clause-times-entry t) clause-times.Post M
 unfolding weight
 clause-times-closed t = lts.spec (claims t) (clause-times-entry t) clause-times.Post
-    (λ c. search needs)
-    (λ c. search needs)
+    (λ c κs. let start = c .before .before .before in (start .pre .1 .0 .read .0 .long, omega (arith, schemas-few (start .args .terms .now) refl, start .pre .1 .1 .1)))
     (λ c. search needs)
     (λ c. search needs)
     (λ c κs. asks t (c .before .before) _ (c .enum-told2 .given .1) (omega arith))

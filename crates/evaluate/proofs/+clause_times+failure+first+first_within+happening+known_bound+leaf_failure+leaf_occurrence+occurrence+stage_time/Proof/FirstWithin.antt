@@ -1,23 +1,28 @@
--- `first_within` meets its contract, its calls within the cycle being smaller. Assumes nothing.
-use Prim.Native.Nat.{ℕ, _+_, _-_, _≤_, _<_}
+-- `first_within` meets its contract, its calls within the cycle being smaller: a walk along the chain of the subject's mark. Assumes nothing.
+use Prim.Native.Nat.{ℕ, _+_, _<_}
 use native.Mathlib.Omega.{arith}
-use mathlib.Core.Path.{_∙_}
+use mathlib.Core.Path.{_≡_, sym, _∙_}
 use mathlib.Core.Logic.{inl, inr}
+use mathlib.Core.List.{List}
 use borrow.Author.Needs.{needs}
-use borrow.Author.Tests.{not-false}
-use lib.ListN.{length, getD, take, drop}
+use lib.ListN.{length}
+use Rattle.meaning.specs.Lists.{All}
 use Rattle.format.specs.Fields.{termsOf}
 use Rattle.meaning.proofs.Time.earlier_of.Reads as earlier-of
-use Rattle.format.proofs.KindLaws.{kinds-count}
-use Rattle.terms.proofs.kind_of.Reads as kind-of
-use Rattle.log.specs.Holds.{Stands}
-use Rattle.log.specs.Listed.{Lists}
-use Rattle.log.proofs.Index.{index-list}
-use Rattle.log.proofs.number_in.Reads as number-in
+use Rattle.table.proofs.kind_of.Reads as kind-of
+use Rattle.table.proofs.kind_count.Reads as kind-count
+use Rattle.table.specs.Table.{tableLength}
+use Rattle.records.specs.Holds.{Stands}
+use Rattle.index.specs.Chains.{indexLimit}
+use Rattle.index.proofs.Walks.{Walking, Next, walk-start, walk-end, walk-next, marked-kind}
+use Rattle.index.proofs.Found.{found-stand, all-next}
+use Rattle.index.proofs.first_word.Reads as first-word
+use Rattle.index.proofs.is_marked.Reads as is-marked
+use Rattle.index.proofs.next_of.Reads as next-of
+use Rattle.index.proofs.owner_of.Reads as owner-of
 use Rattle.times.proofs.within.Reads as within
-use Rattle.evaluate.proofs.Scan.{Scanned, listed-stands, listed-of, scan-none, scan-start, scan-step, scan-skip, scan-end}
-use Rattle.evaluate.proofs.marks.mark_of.Reads as mark-of
-use Rattle.evaluate.proofs.marks.told_by.Reads as told-by
+use Rattle.evaluate.proofs.Scan.{Scanned, scan-none, scan-start, scan-take, scan-skip, scan-end}
+use Rattle.marks.proofs.mark_of.Reads as mark-of
 use Rattle.evaluate.proofs.happening.Reads as happening
 use Rattle.evaluate.proofs.first_within.Reads as first-within
 use Rattle.evaluate.proofs.+clause_times+failure+first+first_within+happening+known_bound+leaf_failure+leaf_occurrence+occurrence+stage_time.Lts-first_within as lts
@@ -25,91 +30,99 @@ use Rattle.evaluate.proofs.+clause_times+failure+first+first_within+hap
 
 -- what the callees ask and promise
 abbrev claims : ℕ → lts.Claims
-claims t = (kind-of.Asked, kind-of.Learnt, mark-of.Asked, mark-of.Learnt, number-in.Asked, number-in.Learnt, told-by.Asked, told-by.Learnt, happening-below t, happening.Post, within.Asked, within.Learnt, earlier-of.Asked, earlier-of.Learnt)
+claims t = (kind-of.Asked, kind-of.Learnt, kind-count.Asked, kind-count.Learnt, mark-of.Asked, mark-of.Learnt, first-word.Asked, first-word.Learnt, is-marked.Asked, is-marked.Learnt, owner-of.Asked, owner-of.Learnt, happening-below t, happening.Post, within.Asked, within.Learnt, earlier-of.Asked, earlier-of.Learnt, next-of.Asked, next-of.Learnt)
 
--- what is found so far, joined with what the rest of the kind's list gives, is the whole
 abbrev Inv-loop : lts.InvT-loop
-Inv-loop terms kinds starts log index clause event lower upper kind k mark from to list first₀ i₀ first i =
-    Lists (termsOf terms) log kind list × Scanned terms log (clause .rank) (clause .subject) lower upper event first list i
+Inv-loop terms log table clause event lower upper kind mark first₀ at₀ first at =
+    (left : List ℕ) × Walking log table mark at left × All (Stands (termsOf terms) log) left × Scanned terms log (clause .rank) (clause .subject) lower upper event first left
 
 abbrev μ-loop : lts.MeasureT-loop
-μ-loop terms kinds starts log index clause event lower upper kind k mark from to list first₀ i₀ first i = length list - i
+μ-loop terms log table clause event lower upper kind mark first₀ at₀ first at = at
 
 returns : (t : ℕ) → lts.Need-returns (claims t) (first-within-entry t) first-within.Post Inv-loop μ-loop
 returns t c =
     let start = c .before .before .before .before .before .before in
     let a = start .args in
-    scan-none (a .terms .now) (a .log .now) (a .clause .rank) (a .clause .subject) (a .lower) (a .upper) (a .event) (c .before .kind-of .ensures)
-    (omega (arith, kinds-count (a .terms .now), start .pre .1 .0 .0 .0))
+    scan-none (a .terms .now) (a .log .now) (a .clause .rank) (a .clause .subject) (a .window .lower) (a .window .upper) (a .event) (c .before .before .kind-of .ensures)
+    (omega (arith, start .pre .1 .0 .read .0 .count, c .before .kind-count .ensures .0))
 
--- the kind's number is in the index, and one behind it
-inside : (t : ℕ) (c : lts.Else1 (claims t) (first-within-entry t) first-within.Post Inv-loop μ-loop) → let a = c .before .before .before .before .before .before .args in c .before .kind-of .result + 1 < length (a .index .now)
-inside t c = let start = c .before .before .before .before .before .before in omega (arith, start .pre .1 .0 .1 .numbered)
-
--- they cut its list out
-listed : (t : ℕ) (c : lts.After-number-in2 (claims t) (first-within-entry t) first-within.Post Inv-loop μ-loop) → let a = c .before .before .before .before .before .before .before .before .before .args in
-    let from = c .before .number-in .result in let to = c .number-in2 .result in
-    (from ≤ to) × (to ≤ length (a .index .now)) × Lists (termsOf (a .terms .now)) (a .log .now) (c .before .before .before .before .kind-of .result) (take (to - from) (drop from (a .index .now)))
-listed t c =
-    let start = c .before .before .before .before .before .before .before .before .before in
-    rw (c .before .number-in .ensures .0, c .number-in2 .ensures .0)
-    (index-list (start .pre .1 .0 .1) _ (omega arith))
+mark-of-requires : (t : ℕ) → lts.Need-mark-of-requires (claims t) (first-within-entry t) first-within.Post Inv-loop μ-loop
+mark-of-requires t c κs =
+    let start = c .before .before .before .before .before .before in
+    (start .pre .1 .0 .read .0, (start .pre .1 .1 .stands, omega (arith, start .pre .1 .0 .read .0 .count, c .before .kind-count .ensures .0)))
 
 loop-holds : (t : ℕ) → lts.Need-loop-holds (claims t) (first-within-entry t) first-within.Post Inv-loop μ-loop
-loop-holds t c = let has = listed t (c .before) .2 in (has, scan-start _ _ _ _ _ _ _ (c .before .before .before .before .before .kind-of .ensures) has)
+loop-holds t c =
+    let start = c .before .before .before .before .before .before .before .before in (
+      _,
+      walk-start _ _ _ _ (start .pre .1 .0 .indexed) (c .first-word .ensures),
+      found-stand _ _ _,
+      scan-start _ _ _ _ _ _ _ (c .before .before .before .before .kind-of .ensures) (c .before .mark-of .ensures),
+    )
 
--- the place that a turn looks at
-stands : (t : ℕ) (c : lts.After-number-in3 (claims t) (first-within-entry t) first-within.Post Inv-loop μ-loop) → let a = c .before .before .before .before .before .before .before .before .before .before .before .before .before .args in Stands (termsOf (a .terms .now)) (a .log .now) (c .number-in3 .result)
-stands t c = let l = c .before .before .loop in rw (c .number-in3 .ensures .0) (listed-stands (l .inv .0) (l .i) (c .before .loop-test .taken))
+-- what a turn knows of its word
+here : (t : ℕ) (c : lts.In-loop (claims t) (first-within-entry t) first-within.Post Inv-loop μ-loop) → let l = c .before in let a = c .before .before .before .before .before .before .before .before .before .before .args in
+    Next (a .log .now) (a .table .now) (l .before .before .mark-of .result) (l .loop .at) (l .loop .inv .0)
+here t c = walk-next _ _ _ (c .before .loop .inv .1) (c .loop-test .taken)
 
-told-by-requires : (t : ℕ) → lts.Need-told-by-requires (claims t) (first-within-entry t) first-within.Post Inv-loop μ-loop
-told-by-requires t c κs =
-    let l = c .before .before .loop in
-    (rw (c .number-in3 .ensures .0, listed-of (l .inv .0) (l .i) (c .before .loop-test .taken)) (c .before .before .before .before .before .before .mark-of .ensures), stands t c)
+is-marked-requires : (t : ℕ) → lts.Need-is-marked-requires (claims t) (first-within-entry t) first-within.Post Inv-loop μ-loop
+is-marked-requires t c κs =
+    let n = here t c in
+    let i = c .before .before .before .before .before .before .before .before .before .before .pre .1 .0 .indexed in
+    (n .owner, (n .inside, (i .short, (i .long, c .before .before .before .mark-of .ensures .word-low))))
+
+-- the word has a slot
+slot : (t : ℕ) (c : lts.In-loop (claims t) (first-within-entry t) first-within.Post Inv-loop μ-loop) → let a = c .before .before .before .before .before .before .before .before .before .before .args in
+    (c .before .loop .at < indexLimit) × (length (a .table .now) ≡ tableLength)
+slot t c =
+    let i = c .before .before .before .before .before .before .before .before .before .before .pre .1 .0 .indexed in
+    (omega (arith, here t c .inside, i .short), i .long)
 
 happening-requires : (t : ℕ) → lts.Need-happening-requires (claims t) (first-within-entry t) first-within.Post Inv-loop μ-loop
 happening-requires t c κs =
-    let turn = c .before .before in
-    let start = turn .before .before .before .before .before .before .before .before .before .before .before .before .before in
-    (omega arith, (start .pre .1 .0, start .pre .1 .1, start .pre .1 .2, stands t turn, turn .before .before .before .before .before .before .before .before .kind-of .ensures))
+    let turn = c .before .before .before in
+    let l = turn .before in
+    let start = l .before .before .before .before .before .before .before .before .before in
+    let is = sym (c .before .before .is-marked .ensures) ∙ c .before .if2 .taken in
+    let kind = marked-kind _ _ _ _ is ∙ (l .before .before .mark-of .ensures .kind-is ∙ l .before .before .before .before .before .kind-of .ensures) in
+    let stands = all-next (Stands (termsOf (start .args .terms .now)) (start .args .log .now)) _ _ _ (here t turn .left-is) (l .loop .inv .2) .0 is in
+    (omega arith, (start .pre .1 .0, (start .pre .1 .1, rw (c .owner-of .ensures) (stands, kind))))
 
 loop-again : (t : ℕ) → lts.Need-loop-again (claims t) (first-within-entry t) first-within.Post Inv-loop μ-loop
 loop-again t c =
-    let turn = c .before .before in
-    let l = turn .before .before .loop in
-    let here = turn .before .loop-test .taken in (
-      l .inv .0,
-      elim (c .if2 .came) [
-        | inl w ↦ scan-step _ _ _ _ _ _ _ (l .first) _ (l .i) (l .inv .1) here (turn .number-in3 .ensures .0) (w .1 .ensures) (w .2 .ensures) (w .4 ∙ w .3 .ensures)
-        | inr w ↦ rw (w .1) (scan-skip _ _ _ _ _ _ _ (l .first) _ (l .i) (l .inv .1) here (turn .number-in3 .ensures .0) (c .before .told-by .ensures (not-false _ (w .0 .left))))
+    let join = c .before in
+    let turn = join .before .before in
+    let l = turn .before in
+    let n = here t turn in (
+      n .rest,
+      rw (c .next-of .ensures) (n .onward),
+      all-next _ _ _ _ (n .left-is) (l .loop .inv .2) .1,
+      elim (join .if2 .came) [
+        | inl w ↦ scan-take _ _ _ _ _ _ _ (l .loop .first) _ _ _ (n .left-is) (l .loop .inv .3) (sym (join .before .is-marked .ensures) ∙ w .0 .taken) (rw (w .1 .ensures) at (w .2 .ensures)) (w .3 .ensures) (w .5 ∙ w .4 .ensures)
+        | inr w ↦ rw (w .1) (scan-skip _ _ _ _ _ _ _ (l .loop .first) _ _ _ (n .left-is) (l .loop .inv .3) (sym (join .before .is-marked .ensures) ∙ w .0 .left))
       ],
     )
 
 returns-2 : (t : ℕ) → lts.Need-returns-2 (claims t) (first-within-entry t) first-within.Post Inv-loop μ-loop
-returns-2 t c = let l = c .before .loop in scan-end _ _ _ _ _ _ _ (l .first) _ (l .i) (l .inv .1) (c .loop-test .left)
+returns-2 t c = let i = c .before .loop .inv in scan-end _ _ _ _ _ _ _ (walk-end _ _ _ (i .1) (c .loop-test .left)) (i .3)
 
 pub first-within-closed : {M : Type 1} (t : ℕ) → lts.Closed (claims t) (first-within-entry t) first-within.Post M
 first-within-closed t = lts.spec (claims t) (first-within-entry t) first-within.Post
     Inv-loop
     μ-loop
-    (λ c κs. search needs)
+    (λ c κs. c .before .before .before .pre .1 .0 .read)
+    (λ c κs. c .before .before .before .before .pre .1 .0 .read .0 .long)
     (λ c. search needs)
     (returns t)
-    (λ c κs. search needs)
-    (λ c κs. omega (arith, inside t (c .before)))
-    (λ c. omega (arith, inside t (c .before .before)))
-    (λ c κs. inside t (c .before .before))
-    (λ c. omega (arith, c .before .number-in .ensures .1))
-    (λ c. listed t c .0)
-    (λ c. listed t c .0)
-    (λ c. listed t c .1)
+    (mark-of-requires t)
+    (λ c κs. (c .mark-of .ensures .word-low, c .before .before .before .before .before .before .before .pre .1 .0 .indexed .long))
     (loop-holds t)
-    (λ c κs. search needs)
-    (told-by-requires t)
+    (is-marked-requires t)
+    (λ c κs. slot t (c .before .before))
     (happening-requires t)
     (λ c κs. search needs)
     (λ c κs. search needs)
-    (λ c. search needs)
-    (λ c. search needs)
+    (λ c κs. slot t (c .before .before))
+    (λ c. omega (arith, c .next-of .ensures, here t (c .before .before .before) .falls))
     (loop-again t)
     (returns-2 t)

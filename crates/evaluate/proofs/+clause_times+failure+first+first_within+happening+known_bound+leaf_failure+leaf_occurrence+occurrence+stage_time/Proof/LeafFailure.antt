@@ -59,7 +59,7 @@ leaf-failure-closed t = lts.spec (claims t) (leaf-failure-entry t) leaf-failure.
     (λ c. search needs)
     (λ c. search needs)
     (λ c. search (fails-no-lower, needs))
-    (λ c κs. let start = c .before .before .before .before .before .before .before .before .before .before .before .before .before .before .before .before .before .before .before in (omega arith, (start .pre .1 .0, start .pre .1 .1, start .pre .1 .2)))
+    (λ c κs. let start = c .before .before .before .before .before .before .before .before .before .before .before .before .before .before .before .before .before .before in (omega arith, (start .pre .1 .0, start .pre .1 .1)))
     (λ c. search needs)
     (λ c. search needs)
     (λ c κs. search needs)

@@ -13,7 +13,7 @@ use Rattle.meaning.specs.Terms.{schemaAt}
 use Rattle.meaning.specs.Rows.{rowOf, rowAt}
 use Rattle.format.specs.Bytes.{byteAt}
 use Rattle.format.specs.Fields.{termsOf}
-use Rattle.log.proofs.Steps.{stands-inside}
+use Rattle.records.proofs.Steps.{stands-inside}
 use Rattle.evaluate.specs.Seen.{recordIn}
 use Rattle.report.specs.Shown.{entriesIn, recordRows}
 use Rattle.report.proofs.RowSteps.{rowIn, record-other, record-shown}
@@ -36,27 +36,27 @@ counted terms log schema m at is e p q r s t =
 returns : tie.Need-returns
 unfolding byteAt
 returns c =
-    let a = c .before .before .before .before .before .before .before .args in
-    (sym (ap length (record-other (a .terms .now) (a .log .now) (a .schema) (a .moment) (a .at) (λ e. c .if1 .taken (e ∙ sym (c .before .subject-of .ensures))))), omega arith)
+    let a = c .before .before .before .before .before .before .args in
+    (sym (ap length (record-other (a .terms .now) (a .log .now) (a .asked .schema) (a .asked .moment) (a .asked .subject) (λ e. c .if1 .taken (e ∙ sym (c .before .subject-of .ensures))))), omega arith)
 
 returns-2 : tie.Need-returns-2
 unfolding byteAt
 returns-2 c =
     let e = c .before .before .before .before .before in
-    let a = e .before .before .before .before .before .before .before .before .args in
-    let all = counted (a .terms .now) (a .log .now) (a .schema) (a .moment) (a .at) (e .before .if1 .left ∙ e .before .before .subject-of .ensures) (e .entries-of .ensures)
-    (c .before .before .before .before .shown .ensures .0) (c .before .before .before .shown2 .ensures .0) (c .before .before .shown3 .ensures .0)
-    (c .before .shown4 .ensures .0) (c .shown5 .ensures .0) in
+    let a = e .before .before .before .before .before .before .before .args in
+    let all = counted (a .terms .now) (a .log .now) (a .asked .schema) (a .asked .moment) (a .asked .subject) (e .before .if1 .left ∙ e .before .before .subject-of .ensures) (e .entries-of .ensures)
+    (c .before .before .before .before .row-count .ensures .0) (c .before .before .before .row-count2 .ensures .0) (c .before .before .row-count3 .ensures .0)
+    (c .before .row-count4 .ensures .0) (c .row-count5 .ensures .0) in
     (all, omega arith)
 
 pub count-record-spec : {M : Type 1} → statement M
 count-record-spec =
     tie.close
     (tie.spec
-    (λ c. let start = c .before .before .before .before .before in stands-inside _ (start .args .log .now) (start .args .at) (start .pre .2))
-    (λ c κs. search needs)
+    (λ c. let start = c .before .before .before .before in stands-inside _ (start .args .log .now) (start .args .asked .subject) (start .pre .1 .1))
+    (λ c κs. c .before .before .before .before .pre .0 .read)
     returns
-    (λ c κs. search needs)
+    (λ c κs. c .before .before .before .before .before .before .pre)
     (λ c κs. search needs)
     (λ c κs. search needs)
     (λ c. search needs)

@@ -1,6 +1,8 @@
 -- `entries_of` meets its contract: each entry by the times of the three clauses. Assumes nothing.
+use Prim.Native.Nat.{ℕ, _*_, _<_}
 use native.Mathlib.Omega.{arith}
-use mathlib.Core.Path.{_≡_}
+use mathlib.Core.Path.{_≡_, refl}
+use lib.ListN.{length, drop}
 use borrow.Author.Needs.{needs}
 use Rattle.meaning.specs.declared.Time.{Time}
 use Rattle.meaning.specs.declared.Time.the-variants.{At}
@@ -8,22 +10,36 @@ use Rattle.meaning.specs.declared.Stage.{Stage}
 use Rattle.meaning.specs.declared.Stage.the-variants.{Created, Detached, Expired, Discharged, Violated}
 use Rattle.meaning.specs.Time.{laterOf, before}
 use Rattle.meaning.specs.Meaning.{stageFrom}
-use Rattle.terms.proofs.Faults.{placed-few}
-use Rattle.log.proofs.Steps.{stands-stamped}
-use Rattle.evaluate.specs.Seen.{stageIn}
+use Rattle.format.specs.Grammar.{schemasLimit, fileOf}
+use Rattle.table.specs.Table.{startsFrom}
+use Rattle.table.proofs.TableLaws.{schemas-few}
+use Rattle.records.proofs.Steps.{stands-stamped}
+use Rattle.index.specs.Chains.{Ready}
+use Rattle.evaluate.specs.Seen.{Posed, stageIn}
 use Rattle.report.proofs.Entries.{entry-here, entries-here}
 use Rattle.report.proofs.rows.entries_of.Statement.{statement}
 use Rattle.report.proofs.rows.entries_of.Tie as tie
 
+-- a clause of the schema may be asked for
+posed : (s : tie.Start) (rank : ℕ) → let x = s .args in rank < 3 * length (fileOf (x .terms .now) .schemas)
+    → Ready (x .terms .now) (x .log .now) (x .table .now)
+    × (Posed (x .terms .now) (x .log .now) (record { subject = x .asked .subject; rank = rank }) × (rank < 3 * length (fileOf (x .terms .now) .schemas)))
+posed s rank h = (s .pre .0, (record { ranked = omega arith; stands = s .pre .1 .1 }, h))
+
+-- there are few schemas
+few : (s : tie.Start) → s .args .asked .schema < schemasLimit
+unfolding schemasLimit
+few s = omega (arith, s .pre .1 .0, schemas-few (s .args .terms .now) refl)
+
 -- an entry from the times of the clauses
 entry : (u : tie.After-clause-times3) (s : Stage) {time entry : Time} → let stamp = u .before .before .before .before in let a = stamp .before .before .before .before .before .before .args in
     time ≡ laterOf (At (stamp .stamp-at .result)) (stageFrom s (stamp .before .norm-type .result) (u .before .before .clause-times .result) (u .before .clause-times2 .result) (u .clause-times3 .result))
-    → entry ≡ before (a .moment) time → entry ≡ before (a .moment) (stageIn (a .terms .now) (a .log .now) (a .subject) s (a .schema))
+    → entry ≡ before (a .asked .moment) time → entry ≡ before (a .asked .moment) (stageIn (a .terms .now) (a .log .now) (a .asked .subject) s (a .asked .schema))
 entry u s e b =
     let stamp = u .before .before .before .before in
     let start = stamp .before .before .before .before .before .before in
-    entry-here (start .args .terms .now) (start .args .log .now) (start .args .starts .now) (start .args .subject) (start .args .schema) (start .pre .0 .0 .2) (omega (arith, start .pre .0 .0 .1)) s (start .args .moment)
-    (stamp .before .norm-type .ensures) (stamp .stamp-at .ensures _) (u .before .before .before .consequent-parts .ensures)
+    entry-here (start .args .terms .now) (start .args .log .now) (drop startsFrom (start .args .table .now)) (start .args .asked .subject) (start .args .asked .schema) (start .pre .0 .read .1 .starts) (start .pre .1 .0) s (start .args .asked .moment)
+    (stamp .before .norm-type .ensures) (stamp .stamp-at .ensures _) (u .before .before .before .consequent-needs-all .ensures)
     (u .before .before .clause-times .ensures) (u .before .clause-times2 .ensures) (u .clause-times3 .ensures) e b
 
 returns : tie.Need-returns
@@ -39,18 +55,19 @@ returns c =
     (entry u Violated (violated .stage-from5 .ensures) (c .before6 .ensures))
 
 pub entries-of-spec : {M : Type 1} → statement M
+unfolding schemasLimit
 entries-of-spec =
     tie.close
     (tie.spec
+    (λ c. omega (arith, few (c .before .before .before .before)))
+    (λ c. omega (arith, few (c .before .before .before .before)))
+    (λ c. omega (arith, few (c .before .before .before .before)))
+    (λ c κs. let start = c .before .before .before .before in (start .pre .0 .read, start .pre .1 .0))
+    (λ c κs. let start = c .before .before .before .before .before in stands-stamped _ (start .args .log .now) (start .args .asked .subject) (start .pre .1 .1))
     (λ c κs. search needs)
-    (λ c κs. let start = c .before .before .before .before .before in stands-stamped _ (start .args .log .now) (start .args .subject) (start .pre .2))
-    (λ c. search needs)
-    (λ c κs. search needs)
-    (λ c κs. search needs)
-    (λ c. search needs)
-    (λ c κs. search needs)
-    (λ c. let start = c .before .before .before .before .before .before .before .before .before in omega (arith, start .pre .1, placed-few (start .args .terms .now) (start .args .starts .now) (start .pre .0 .0)))
-    (λ c κs. let start = c .before .before .before .before .before .before .before .before .before in (start .pre .0, omega (arith, start .pre .1, start .pre .0 .0 .1), start .pre .2))
+    (λ c κs. let start = c .before .before .before .before .before .before .before in posed start _ (omega (arith, start .pre .1 .0)))
+    (λ c κs. let start = c .before .before .before .before .before .before .before .before in posed start _ (omega (arith, start .pre .1 .0)))
+    (λ c κs. let start = c .before .before .before .before .before .before .before .before .before in posed start _ (omega (arith, start .pre .1 .0)))
     (λ c κs. search needs)
     (λ c κs. search needs)
     (λ c κs. search needs)

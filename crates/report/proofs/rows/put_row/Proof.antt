@@ -3,11 +3,12 @@ use native.Mathlib.Omega.{arith}
 use mathlib.Core.Path.{_≡_, _∙_}
 use lib.ListN.{length, length-set}
 use borrow.Author.Needs.{needs}
+use Rattle.format.specs.Records.{rowLength}
 use Rattle.report.proofs.Pages.{row-by}
 use Rattle.report.proofs.rows.put_row.Statement.{statement}
 use Rattle.report.proofs.rows.put_row.Tie as tie
 
--- the page is as long as it was, behind each number
+-- the page is as long as it was, after each number
 long : (c : tie.After-put-u32) → length (c .put-u32 .last .0) ≡ length (c .before .before .before .before .args .page .now)
 long c = simp length-set at (c .put-u32 .kept .0)
 
@@ -29,6 +30,7 @@ returns c =
     row-by _ _ _ (first .before .before .before .before .pre) (first .before .before .number .ensures) (first .put-u32 .ensures) (second .put-u322 .ensures) (third .put-u323 .ensures) (fourth .put-u324 .ensures)
 
 pub put-row-spec : {M : Type 1} → statement M
+unfolding rowLength
 put-row-spec =
     tie.close
     (tie.spec

@@ -1,0 +1,2 @@
+-- Laws of marks.
+pub mod Marked

@@ -1,0 +1,2 @@
+-- What records are found by that correlate with a subject.
+pub mod Marks

@@ -1,0 +1,2 @@
+-- Laws of a call's table.
+pub mod TableLaws
