@@ -1,4 +1,4 @@
--- The times of an expression at a place of terms, by what the code tells of it; and a stage's time from the parts of its clauses' times.
+-- The times of an expression at a place of terms, by what the code tells of it; and a stage's time from those times of its clauses that it needs.
 --     expression-as                                   what is known of an expression, as the code told it
 --     leaf-times, and-times, or-times, except-times   its times, case by case
 --     always-times, nothing-times

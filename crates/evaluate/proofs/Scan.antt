@@ -14,14 +14,13 @@ use Rattle.meaning.specs.declared.Time.{Time}
 use Rattle.meaning.specs.declared.Time.the-variants.{Never}
 use Rattle.meaning.specs.declared.Event.{Event}
 use Rattle.meaning.specs.declared.Edge.{Edge}
-use Rattle.meaning.specs.declared.Edge.the-variants.{Minute, Endless}
-use Rattle.meaning.specs.Lists.{All}
-use Rattle.meaning.specs.Time.{earlierOf, before, from}
+use Rattle.meaning.specs.Time.{earlierOf}
 use Rattle.meaning.specs.Terms.{kindOf}
-use Rattle.meaning.specs.Log.{Record, Log, correlate}
+use Rattle.meaning.specs.Log.{Record, correlate}
 use Rattle.meaning.specs.Meaning.{earliest, fromEdge, beforeEdge, happening, firstWithin}
 use Rattle.meaning.proofs.BoolLaws.{and-true}
 use Rattle.meaning.proofs.TimeLaws.{earlier-assoc, earlier-never}
+use Rattle.meaning.proofs.EdgeLaws.{never-within, earliest-never}
 use Rattle.format.specs.Bytes.{byteAt}
 use Rattle.format.specs.Fields.{termsOf}
 use Rattle.format.specs.Records.{valueWidth, recordsIn}
@@ -36,19 +35,6 @@ use Rattle.evaluate.specs.Seen.{logIn, recordIn, under}
 use Rattle.marks.specs.Marks.{Marks}
 use Rattle.evaluate.proofs.Happens.{happens}
 
--- what never happens is in no window
-never-inside : (l u : Edge) → fromEdge l (beforeEdge u Never) ≡ Never
-unfolding fromEdge beforeEdge from before
-never-inside (Minute l) (Minute u) = refl
-never-inside (Minute l) Endless = refl
-never-inside Endless u = refl
-
--- records that give no time
-earliest-none : (f : Record → Time) (kinds : ℕ) → ((r : Record) → r .kind < kinds → f r ≡ Never) → (log : Log) → All (λ r. r .kind < kinds) log → earliest f log ≡ Never
-unfolding earliest earlierOf
-earliest-none f kinds none [] all = refl
-earliest-none f kinds none (r ∷ log) all = rw (none r (all .0)) (earliest-none f kinds none log (all .1))
-
 module _ (terms log : List ℕ) (k subject : ℕ) (l u : Edge) (event : Event) where
   -- a happening by a record, where it is in the window
   abbrev pub inWindow : Record → Time
@@ -57,13 +43,13 @@ module _ (terms log : List ℕ) (k subject : ℕ) (l u : Edge) (event : Event) w
   -- a record of another kind, or one that does not correlate, gives no time
   by-other : (r : Record) → (eqb (r .kind) (kindOf (termsOf terms) event) && correlate (termsOf terms) (recordIn terms log subject) r) ≡ false → inWindow r ≡ Never
   unfolding under happening
-  by-other r e = rw (e, happening) (never-inside l u)
+  by-other r e = rw (e, happening) (never-within l u)
 
   -- a kind that is not declared has no records
   pub scan-none : {kind : ℕ} → kind ≡ kindOf (termsOf terms) event → length (termsOf terms .kinds) ≤ kind → Never ≡ under firstWithin terms log k subject l u event
   unfolding under firstWithin logIn
   scan-none {kind} is past =
-      sym (earliest-none inWindow (length (termsOf terms .kinds))
+      sym (earliest-never inWindow (λ r. r .kind < length (termsOf terms .kinds))
       (λ r h. by-other r (rw (ne-eqb (r .kind) (kindOf (termsOf terms) event) (λ e. absurd (omega (arith, is)))))) (recordsIn valueWidth (termsOf terms) log) (kinds-declared (termsOf terms) log))
 
   -- the earliest so far, and the earliest of the records that are left, make up the earliest of all

@@ -1,5 +1,5 @@
 -- The model's meaning of what bytes hold, for a clause of a rank and the subject at a place of the log. Assumes nothing: these are definitions.
-use Prim.Native.Nat.{ℕ, _*_, _≤_}
+use Prim.Native.Nat.{ℕ, _*_, _<_}
 use mathlib.Core.List.{List}
 use lib.ListN.{length}
 use Rattle.meaning.specs.declared.Time.{Time}
@@ -40,7 +40,7 @@ knownAs bound Never = Unknown
 
 -- a clause of the terms, and a subject that stands in the log
 pub record Posed (terms log : List ℕ) (clause : Clause) : Type 0 where
-  -- no clause ranks above the last
-  pub ranked : clause .rank ≤ 3 * length (fileOf terms .schemas)
+  -- the clause is one of three for each schema
+  pub ranked : clause .rank < 3 * length (fileOf terms .schemas)
   -- the subject's record
   pub stands : Stands (termsOf terms) log (clause .subject)

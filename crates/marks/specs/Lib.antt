@@ -1,2 +1,2 @@
--- What records are found by that correlate with a subject.
+-- By what the records that correlate with a subject are looked up.
 pub mod Marks

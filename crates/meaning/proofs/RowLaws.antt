@@ -1,6 +1,6 @@
 -- The rows of a report: which they are, in which order, and none twice.
 -- Document 01, 'Calls', 4. Assumes nothing.
-use Prim.Native.Nat.{ℕ, _<_}
+use Prim.Native.Nat.{ℕ, _≤_, _<_}
 use native.Mathlib.Omega.{arith}
 use mathlib.Core.Path.{_≡_, refl, ap, sym, _∙_, fun-ext}
 use mathlib.Core.Logic.{_↔_, _⊎_, inl, inr}
@@ -24,6 +24,12 @@ use Rattle.meaning.proofs.BoolLaws.{or-false}
 use Rattle.meaning.proofs.MemberLaws.{anyOf-none, mem-flatMap, flatMap-mem, mem-numbers, numbers-mem, stages-mem, Distinct, Apart, distinct-flatMap, apart-by, distinct-numbers, distinct-stages}
 use Rattle.meaning.proofs.TimeLaws.{before-lt, before-le, before-never, Side, early, late, side}
 use Rattle.meaning.proofs.StrikeLaws.{strike-flatMap}
+
+-- a time has at most one row
+pub row-one : (f : ℕ → Row) (t : Time) → length (rowAt f t) ≤ 1
+unfolding rowAt
+row-one f (At t) = omega arith
+row-one f Never = omega arith
 
 -- the row of a record's stage where its time is before m, else none
 unfoldable pub rowsAt : Terms → Log → ℕ → ℕ → Record → Stage → List Row

@@ -5,11 +5,22 @@ use mathlib.Core.Path.{_≡_, refl, ap, _∙_}
 use mathlib.Core.Bool.{Bool, true, false, cond}
 use mathlib.Core.List.{List, [], _∷_, _++_, map, flatMap}
 use lib.Dec.{ltb}
+use lib.ListN.{length}
 use borrow.Author.Tests.{ltb-true, ltb-false, le-ltb}
 use Rattle.meaning.specs.Lists.{All}
 use Rattle.meaning.specs.Rows.{strike}
 
 module _ {A : Type 0} (timed : A → ℕ) where
+  -- no more is left than there was
+  pub strike-le : (m : ℕ) (l : List A) → length (strike timed m l) ≤ length l
+  unfolding strike
+  strike-le m [] = omega arith
+  strike-le m (x ∷ l) = go (ltb (timed x) m) (strike-le m l)
+    where
+      go : (b : Bool) → length (strike timed m l) ≤ length l → length (cond b (x ∷ strike timed m l) (strike timed m l)) ≤ length (x ∷ l)
+      go true h = omega arith
+      go false h = omega arith
+
   -- Two lists one behind the other are struck one by one: a report is built by joining lists.
   pub strike-append : (m : ℕ) (a b : List A) → strike timed m (a ++ b) ≡ strike timed m a ++ strike timed m b
   unfolding strike

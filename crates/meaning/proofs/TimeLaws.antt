@@ -176,6 +176,14 @@ earlier-assoc (At a) (At b) Never = refl
 earlier-assoc (At a) Never c = refl
 earlier-assoc Never b c = refl
 
+-- it does not matter which of two times stands first
+pub earlier-swap : (a b : Time) → earlierOf a b ≡ earlierOf b a
+unfolding earlierOf
+earlier-swap (At a) (At b) = ap At (omega arith)
+earlier-swap (At a) Never = refl
+earlier-swap Never (At b) = refl
+earlier-swap Never Never = refl
+
 -- none is later than any
 pub earlier-never : (a : Time) → earlierOf a Never ≡ a
 unfolding earlierOf

@@ -3,7 +3,7 @@ use crate::ROW_LENGTH;
 use evaluate::Clause;
 use evaluate::clause_times;
 use grammar::Reading;
-use index::Mark;
+use index::all_of;
 use index::count_with;
 use meaning::Entries;
 use meaning::Row;
@@ -165,20 +165,16 @@ fn count_rows(terms: &[u8], log: &[u8], table: &[u16], moment: u32) -> usize
     count
 }
 
-// No more rows than this has a schema: five for each record of its subject kind.
+// An upper bound on the rows of a schema: five for each record of its subject kind.
 fn schema_rows_at_most(terms: &[u8], log: &[u8], table: &[u16], schema: usize) -> usize
     requires { ⌜ Ready (now terms) (now log) (now table) ⌝ }
     ensures { λ r. ⌜ ((m : ℕ) → length (rowsFrom (now (terms .entry)) (now (log .entry)) schema m 0) ≤ r) × (r ≤ 5 * indexLimit) ⌝ }
 {
-    let subjects = Mark {
-        kind: subject_of(terms, table, schema),
-        word: 0,
-        value: 0,
-    };
+    let subjects = all_of(subject_of(terms, table, schema));
     5 * count_with(terms, log, table, subjects)
 }
 
-// No more rows than this has a report.
+// An upper bound on the rows of a report.
 fn rows_at_most(terms: &[u8], log: &[u8], table: &[u16]) -> usize
     requires { ⌜ Ready (now terms) (now log) (now table) ⌝ }
     ensures { λ r. ⌜ ((m : ℕ) → length (schemasFrom (now (terms .entry)) (now (log .entry)) m 0) ≤ r) × (r ≤ schemasLimit * (5 * indexLimit)) ⌝ }
@@ -192,7 +188,7 @@ fn rows_at_most(terms: &[u8], log: &[u8], table: &[u16]) -> usize
     most
 }
 
-// Whether a page is too short for the rows of a report. They are counted only where it could be.
+// Whether a page is too short for the rows of a report. They are counted only where the upper bound does not fit.
 pub(crate) fn too_short(terms: &[u8], log: &[u8], table: &[u16], moment: u32, page: &[u8]) -> bool
     requires { ⌜ Ready (now terms) (now log) (now table) ⌝ }
     ensures { λ r. ⌜ r ≡ ltb (length (now (page .entry))) (rowLength valueWidth * length (schemasFrom (now (terms .entry)) (now (log .entry)) moment 0)) ⌝ }

@@ -7,19 +7,17 @@ use mathlib.Core.Path.{_≡_, refl}
 use mathlib.Core.Bool.{Bool, true, false}
 use mathlib.Core.List.{List, [], _∷_, flatMap}
 use lib.ListN.{length, length-append, length-map, length-take, take}
-use Rattle.meaning.specs.declared.Time.{Time}
-use Rattle.meaning.specs.declared.Time.the-variants.{At, Never}
 use Rattle.meaning.specs.declared.Row.{Row}
 use Rattle.meaning.specs.Lists.{numbersFrom}
 use Rattle.meaning.specs.Stages.{stages}
 use Rattle.meaning.specs.Terms.{Terms}
 use Rattle.meaning.specs.Log.{Record, Log}
-use Rattle.meaning.specs.Rows.{rowAt, isSubject}
+use Rattle.meaning.specs.Rows.{isSubject}
 use Rattle.format.specs.Grammar.{schemasLimit}
 use Rattle.format.specs.Fields.{termsOf}
 use Rattle.format.specs.Records.{valueWidth, readRecord, readLog, recordsIn, logOf}
 use Rattle.calls.specs.Calls.{logLimit, append, rowsOf, report}
-use Rattle.meaning.proofs.RowLaws.{rowsAt, subjectRowsAt, report-order}
+use Rattle.meaning.proofs.RowLaws.{rowsAt, subjectRowsAt, row-one, report-order}
 use Rattle.format.proofs.ReaderLaws.{many-count}
 use Rattle.format.proofs.GrammarLaws.{file-read}
 use Rattle.calls.proofs.RefusalLaws.{report-accepted}
@@ -39,19 +37,13 @@ unfolding numbersFrom
 numbers-count n zero = omega arith
 numbers-count n (suc count) = omega (arith, numbers-count (suc n) count)
 
--- a time has at most one row
-few-at : (f : ℕ → Row) (t : Time) → length (rowAt f t) ≤ 1
-unfolding rowAt
-few-at f (At n) = omega arith
-few-at f Never = omega arith
-
 -- a record has at most five rows under a schema
 few-subject : (terms : Terms) (log : Log) (m j : ℕ) (r : Record) → length (subjectRowsAt terms log m j r) ≤ 5
 unfolding subjectRowsAt rowsAt stages
 few-subject terms log m j r = go (isSubject terms j r)
   where
     go : (b : Bool) → length {A = Row} (elim b [ true ↦ flatMap (rowsAt terms log m j r) stages | false ↦ [] ]) ≤ 5
-    go true = few-each 1 (rowsAt terms log m j r) (λ s. few-at _ _) stages
+    go true = few-each 1 (rowsAt terms log m j r) (λ s. row-one _ _) stages
     go false = omega arith
 
 -- at most 32,768 records have at most 163,840 rows under a schema

@@ -3,7 +3,7 @@
 --     field-faults, citation-faults, unshared-faults   refusals 3, 4 and 5 as faults of schemas by number
 --     field-here, citation-here, unshared-here         the fault at one schema, by the items of its clauses
 --     grammar-here                                     refusal 2 by the counts and by where the bytes left unread start
---     layout-few, placed-few, layout-placed            what a layout tells of the places
+--     layout-few, layout-placed                        what a layout tells of the places
 -- Assumes nothing.
 use Prim.Native.Nat.{ℕ, suc, _+_, _*_, _≤_, _<_}
 use native.Mathlib.Nat.{add-zero, zero-add}
@@ -100,11 +100,6 @@ grammar-here s p laid = rw (empty-count (fileOf s .kinds), empty-count (fileOf s
 pub layout-few : (s : List ℕ) (p : Layout) → LaidOut s p → p .schemas ≤ 16
 unfolding schemasLimit
 layout-few s p laid = omega (arith, laid .schemas-read, file-read s .2)
-
--- there are at most 48 starts
-pub placed-few : (s starts : List ℕ) {kinds : ℕ} → Placed s kinds starts → length starts ≤ 48
-unfolding schemasLimit
-placed-few s starts placed = omega (arith, placed .1, file-read s .2)
 
 -- a layout tells the places
 pub layout-placed : (s : List ℕ) (p : Layout) → LaidOut s p → length (p .starts) ≡ 48 → Placed s (p .kinds) (take (3 * p .schemas) (p .starts))

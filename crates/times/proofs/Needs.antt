@@ -1,4 +1,4 @@
--- A stage's time asks for no more of its clauses' times than the parts say. Assumes nothing.
+-- A stage's time asks for no more of its clauses' times than is needed. Assumes nothing.
 use mathlib.Core.Path.{_≡_, refl}
 use Rattle.meaning.specs.declared.Times.{Times}
 use Rattle.meaning.specs.declared.Stage.{Stage}
@@ -9,7 +9,7 @@ use Rattle.meaning.specs.Meaning.{andOf, orOf, exceptOf, stageFrom}
 use Rattle.times.specs.declared.Needed.the-variants.{Occurrence, Both}
 use Rattle.times.specs.NeededTimes.{neededOf, detachNeeds, consequentNeeds, consequentNeedsAll}
 
--- the parts of the clauses are enough
+-- the times that are needed are enough
 pub stage-needs : (s : Stage) (norm : NormType) (c r u : Times) → stageFrom s norm (neededOf Occurrence c) (neededOf (detachNeeds s) r) (neededOf (consequentNeeds s norm) u) ≡ stageFrom s norm c r u
 unfolding stageFrom andOf orOf exceptOf neededOf
 stage-needs Created norm c r u = refl

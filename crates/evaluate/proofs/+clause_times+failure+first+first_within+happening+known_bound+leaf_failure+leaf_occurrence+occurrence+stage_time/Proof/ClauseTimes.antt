@@ -1,4 +1,4 @@
--- `clause_times` meets its contract, its calls within the cycle being smaller: one law for each part. Assumes nothing.
+-- `clause_times` meets its contract, its calls within the cycle being smaller: one law for each time that is needed. Assumes nothing.
 use Prim.Native.Nat.{ℕ, _+_, _*_, _≤_, _<_}
 use native.Mathlib.Omega.{arith}
 use mathlib.Core.Path.{_≡_, refl}
@@ -20,7 +20,7 @@ use Rattle.evaluate.proofs.+clause_times+failure+first+first_within+hap
 abbrev claims : ℕ → lts.Claims
 claims t = (start-in.Asked, start-in.Learnt, occurrence-below t, occurrence.Post, failure-below t, failure.Post)
 
--- an expression of the clause may be asked for, where the part that is needed is told: it weighs less
+-- an expression of the clause may be asked for, where it is told which time is needed: it weighs less
 asks : (t : ℕ) (c : lts.After-start-in (claims t) (clause-times-entry t) clause-times.Post) (p : Needed) → let a = c .before .before .before .before .args in a .needed ≡ p
     → a .clause .rank * 512 + 257 < weight p (a .clause .rank) → (a .clause .rank * 512 + 31 * 8 + 9 < t)
     × (Ready (a .terms .now) (a .log .now) (a .table .now) × (Posed (a .terms .now) (a .log .now) (a .clause) × (31 ≤ exprLimit)))
@@ -28,7 +28,7 @@ unfolding exprLimit
 asks t c p e h =
     let s = c .before .before .before .before in
     let same : weight p (s .args .clause .rank) ≡ t = rw (← e) (s .pre .0) in
-    (omega (arith, same), (s .pre .1 .0, (s .pre .1 .1 .0, omega arith)))
+    (omega (arith, same), (s .pre .1 .0, (s .pre .1 .1, omega arith)))
 
 neither-returns : (t : ℕ) → lts.Need-returns (claims t) (clause-times-entry t) clause-times.Post
 unfolding neededOf
@@ -49,7 +49,7 @@ both-return t c = rw (c .before .before .enum-told4 .given .1, c .before .occurr
 pub clause-times-closed : {M : Type 1} (t : ℕ) → lts.Closed (claims t) (clause-times-entry t) clause-times.Post M
 unfolding weight
 clause-times-closed t = lts.spec (claims t) (clause-times-entry t) clause-times.Post
-    (λ c κs. let start = c .before .before .before in (start .pre .1 .0 .read .0 .long, omega (arith, schemas-few (start .args .terms .now) refl, start .pre .1 .1 .1)))
+    (λ c κs. let start = c .before .before .before in (start .pre .1 .0 .read .0 .long, omega (arith, schemas-few (start .args .terms .now) refl, start .pre .1 .1 .ranked)))
     (λ c. search needs)
     (λ c. search needs)
     (λ c κs. asks t (c .before .before) _ (c .enum-told2 .given .1) (omega arith))

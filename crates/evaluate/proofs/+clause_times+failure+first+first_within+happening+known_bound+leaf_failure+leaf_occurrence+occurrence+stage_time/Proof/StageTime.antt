@@ -68,9 +68,8 @@ consequent-below Violated norm j = omega (arith, weight-most (consequentNeeds Vi
 
 -- a clause of the schema may be asked for
 posed : (t : ℕ) (a : lts.Start (claims t) (stage-time-entry t) stage-time.Post) (rank : ℕ) → let x = a .args in rank < 3 * length (fileOf (x .terms .now) .schemas)
-    → Ready (x .terms .now) (x .log .now) (x .table .now)
-    × (Posed (x .terms .now) (x .log .now) (record { subject = x .subject; rank = rank }) × (rank < 3 * length (fileOf (x .terms .now) .schemas)))
-posed t a rank h = (a .pre .1 .0, (record { ranked = omega arith; stands = a .pre .1 .1 .1 }, h))
+    → Ready (x .terms .now) (x .log .now) (x .table .now) × Posed (x .terms .now) (x .log .now) (record { subject = x .subject; rank = rank })
+posed t a rank h = (a .pre .1 .0, record { ranked = h; stands = a .pre .1 .1 .1 })
 
 create-asks : (t : ℕ) → lts.Need-clause-times-requires (claims t) (stage-time-entry t) stage-time.Post
 create-asks t c κs =

@@ -22,9 +22,8 @@ use Rattle.report.proofs.rows.entries_of.Tie as tie
 
 -- a clause of the schema may be asked for
 posed : (s : tie.Start) (rank : ℕ) → let x = s .args in rank < 3 * length (fileOf (x .terms .now) .schemas)
-    → Ready (x .terms .now) (x .log .now) (x .table .now)
-    × (Posed (x .terms .now) (x .log .now) (record { subject = x .asked .subject; rank = rank }) × (rank < 3 * length (fileOf (x .terms .now) .schemas)))
-posed s rank h = (s .pre .0, (record { ranked = omega arith; stands = s .pre .1 .1 }, h))
+    → Ready (x .terms .now) (x .log .now) (x .table .now) × Posed (x .terms .now) (x .log .now) (record { subject = x .asked .subject; rank = rank })
+posed s rank h = (s .pre .0, record { ranked = h; stands = s .pre .1 .1 })
 
 -- there are few schemas
 few : (s : tie.Start) → s .args .asked .schema < schemasLimit
