@@ -1,217 +1,299 @@
-//! Times reports by the engine and by both ways of the second implementation, and prints ratios as a markdown table.
+//! Times calls by the engine, by the second implementation and by SQLite, and prints ratios as markdown tables.
 
 #[allow(unused)] // a program uses a part of it
 mod engine;
+mod measure;
 #[allow(unused)]
 mod rows;
 #[allow(unused)]
 mod second;
+mod shares;
+#[cfg(sqlite)]
+mod sqlite;
 
 use engine::{Answer, Engine, Log};
+use measure::{head, line, measured, Way};
 use rows::ROW;
+use second::Outcome;
+use shares::{bytes, last_stamp, shares, Record, LOG_LIMIT, SHARE, WRITE};
 
-const LOG_LIMIT: usize = 32_768;
-/// Bytes of the four records of a share.
-const SHARE: usize = 56;
-const RUNS: usize = 7;
-/// A run repeats its call for so many seconds.
-const LEAST: f64 = 0.03;
+/// Parts of the longest log.
+const ALL: [usize; 4] = [8, 4, 2, 1];
+const SHORT: [usize; 3] = [64, 32, 16];
+/// The longest log on which plain evaluation of many leaves is timed; twice the log takes it four times as long.
+const PLAIN_PART: usize = 8;
 
-#[repr(C)]
-struct Clock {
-    seconds: i64,
-    nanoseconds: i64,
+/// What a line of a report and one of a check has first.
+const REPORT: &str = "terms, log bytes, records, rows";
+const CHECK: &str = "call, log bytes, records";
+
+/// Call 4 of the second implementation, by terms, buffer, used length, moment and page.
+type Report = fn(&[u8], &[u8], usize, u32, &[u8]) -> Outcome;
+const PLAIN: Report = second::plain_report;
+const TABLES: Report = second::report;
+
+/// A page has room for five rows for each of so many subjects in a share, or it just holds the rows.
+#[derive(Clone, Copy)]
+enum Page {
+    Room(usize),
+    Exact,
 }
 
-extern "C" {
-    fn clock_gettime(clock: i32, time: *mut Clock) -> i32;
-}
-
-const OWN_THREAD: i32 = 3;
-
-const SHARED: u8 = 0;
-const REVOKED: u8 = 1;
-const WRITTEN: u8 = 2;
+/// The sample's schemas have up to three subjects in a share.
+const ROOM: Page = Page::Room(3);
 
 fn main() {
-    println!(
-        "| terms | log bytes | records | rows | plain / engine | tables / engine | growth: engine | plain | tables |"
-    );
-    println!("|---|---|---|---|---|---|---|---|---|");
-    let all = [8, 4, 2, 1];
-    let sample = [declared(), sample()].concat();
-    table("sample share", &sample, &all, roomy);
-    table("sample share, exact page", &sample, &all, exact);
-    let citing = [sample, citing()].concat();
-    table("one cites another", &citing, &all, roomy);
-    table("one cites another, exact page", &citing, &all, exact);
-    let chain = [citing, chained()].concat();
-    table("chain of three", &chain, &all, roomy);
-    table("chain of three, short logs", &chain, &[64, 32, 16], roomy);
-    table("chain of three, short logs, exact page", &chain, &[64, 32, 16], exact);
+    reports();
+    checks_and_appends();
+    many_leaves();
+    one_hash();
+    database();
 }
 
-/// A page with room for every row that there could be: five for each of three subjects in a share.
-fn roomy(log: Log, _: u32) -> Vec<u8> {
-    vec![0; ROW * 15 * (log.used / SHARE)]
+fn reports() {
+    let title = "Reports, by log length.";
+    head(title, REPORT, &["plain", "tables"], "growth");
+    let (sample, citing, chain) = (shares::sample(), shares::citing(), shares::chained());
+    report_lines("sample share", &sample, ROOM, &ALL);
+    report_lines("sample share, exact page", &sample, Page::Exact, &ALL);
+    report_lines("one cites another", &citing, ROOM, &ALL);
+    report_lines("one cites another, exact page", &citing, Page::Exact, &ALL);
+    report_lines("chain of three", &chain, ROOM, &ALL);
+    report_lines("chain of three, short logs", &chain, ROOM, &SHORT);
+    report_lines("chain of three, short logs, exact page", &chain, Page::Exact, &SHORT);
 }
 
-/// A page that just holds the rows.
-fn exact(log: Log, moment: u32) -> Vec<u8> {
-    let report = second::report(log.terms, log.buffer, log.used, moment, &roomy(log, moment));
-    vec![0; ROW * report.value as usize]
-}
-
-/// A row of the table for each part of the longest log.
-fn table(name: &str, terms: &[u8], parts: &[usize], page: fn(Log, u32) -> Vec<u8>) {
-    let mut before: Option<[f64; 3]> = None;
-    for part in parts {
-        let (log, last) = shares(LOG_LIMIT / part / SHARE);
-        let moment = last + 1_000;
-        let lent = Log {
-            terms,
-            buffer: &log,
-            used: log.len(),
-        };
-        let (rows, times) = measured(lent, moment, &page(lent, moment));
-        let [engine, plain, tables] = times;
-        let grown = before.map_or([const { String::new() }; 3], |before| {
-            [0, 1, 2].map(|way: usize| format!("{:.1}", times[way] / before[way]))
-        });
-        let records = 4 * (log.len() / SHARE);
-        let ratios = format!("{:.2} | {:.2}", plain / engine, tables / engine);
-        println!(
-            "| {name} | {} | {records} | {rows} | {ratios} | {} |",
-            log.len(),
-            grown.join(" | ")
-        );
-        before = Some(times);
-    }
-}
-
-/// The number of rows, and the median times of the engine, of plain evaluation and of tables, taken in turn.
-fn measured(log: Log, moment: u32, page: &[u8]) -> (u32, [f64; 3]) {
-    let mut engine = Engine::new();
-    let mut ways: [Box<dyn FnMut() -> Answer>; 3] = [
-        Box::new(|| engine.report(log, moment, page)),
-        Box::new(|| second::plain_report(log.terms, log.buffer, log.used, moment, page).into()),
-        Box::new(|| second::report(log.terms, log.buffer, log.used, moment, page).into()),
-    ];
-    let answers: Vec<Answer> = ways.iter_mut().map(|way| way()).collect();
-    assert!(
-        answers[0].number == 0 && answers[0].value > 0,
-        "the report is accepted and has rows"
-    );
-    assert!(
-        answers[0] == answers[1] && answers[0] == answers[2],
-        "all three answer the same"
-    );
-    let mut times = [const { Vec::new() }; 3];
-    for _ in 0..RUNS {
-        for (way, times) in ways.iter_mut().zip(&mut times) {
-            times.push(timed(way));
-        }
-    }
-    (answers[0].value, times.map(median))
-}
-
-/// Seconds for a call.
-fn timed(way: &mut dyn FnMut() -> Answer) -> f64 {
-    let start = processor_time();
-    let mut calls = 0;
-    while calls == 0 || processor_time() - start < LEAST {
-        std::hint::black_box(way());
-        calls += 1;
-    }
-    (processor_time() - start) / f64::from(calls)
-}
-
-/// Seconds that this thread was at work, so that other work on the machine counts as little as it can.
-fn processor_time() -> f64 {
-    let mut time = Clock {
-        seconds: 0,
-        nanoseconds: 0,
+/// A line for each part of the longest log.
+fn report_lines(name: &str, terms: &[u8], page: Page, parts: &[usize]) {
+    let reports = Reports {
+        terms,
+        page,
+        others: &[PLAIN, TABLES],
     };
-    // SAFETY: the pointer is to a clock of the form that the C library writes.
-    let answer = unsafe { clock_gettime(OWN_THREAD, &mut time) };
-    assert!(answer == 0, "no clock");
-    time.seconds as f64 + time.nanoseconds as f64 / 1e9
+    lines(parts, 0, |records, before| reports.line(name, records, before));
 }
 
-fn median(mut times: Vec<f64>) -> f64 {
-    times.sort_by(f64::total_cmp);
-    times[times.len() / 2]
-}
-
-/// A log of so many shares, each written to, revoked and written to again, and the last stamp.
-fn shares(count: usize) -> (Vec<u8>, u32) {
-    let mut records: Vec<(u32, u8, Vec<u32>)> = Vec::new();
-    for share in 0..count as u32 {
-        let start = 3 * share;
-        let revoked = start + 30 + 5 * share % 17;
-        records.push((start, SHARED, vec![share % 40, share % 7, share, share % 90]));
-        records.push((start + 10 + 7 * share % 13, WRITTEN, vec![share, 2 * share]));
-        records.push((revoked, REVOKED, vec![share]));
-        records.push((revoked + 15 + 11 * share % 120, WRITTEN, vec![share, 2 * share + 1]));
+/// Prints a line for each of some parts of the longest log, with room for some bytes more, each compared with the one before.
+fn lines(parts: &[usize], room: usize, line: impl Fn(&[Record], &[f64]) -> Vec<f64>) {
+    let mut before = Vec::new();
+    for part in parts {
+        before = line(&shares((LOG_LIMIT / part - room) / SHARE), &before);
     }
-    records.sort();
-    let mut log = Vec::new();
-    for (stamp, kind, values) in &records {
-        log.push(*kind);
-        log.extend(stamp.to_le_bytes());
-        log.extend(values.iter().flat_map(|value| value.to_le_bytes()));
+}
+
+/// Reports under some terms by the engine and in other ways.
+struct Reports<'a> {
+    terms: &'a [u8],
+    page: Page,
+    others: &'a [Report],
+}
+
+impl Reports<'_> {
+    /// Prints a line and gives its times.
+    fn line(&self, name: &str, records: &[Record], before: &[f64]) -> Vec<f64> {
+        let log = bytes(records);
+        let (log, moment) = (whole(self.terms, &log), late(records));
+        let page = blank(self.page, log, moment);
+        let mut ways = vec![by_engine(log, moment, &page)];
+        let others = self.others.iter();
+        ways.extend(others.map(|&other| by_second(other, log, moment, &page)));
+        report_line(name, records, ways, before)
     }
-    (log, records.last().map_or(0, |record| record.0))
 }
 
-const CREATED: u8 = 1;
-const DETACHED: u8 = 2;
-const VIOLATED: u8 = 5;
-const ALWAYS: [u8; 1] = [7];
-const ZERO: [u8; 7] = [0; 7];
-const OPEN: [u8; 7] = [3, 0, 0, 0, 0, 0, 0];
-
-fn plus(event: [u8; 2], offset: u8) -> [u8; 7] {
-    [1, event[0], event[1], offset, 0, 0, 0]
+/// Prints a line for ways of one report and gives their times.
+fn report_line(name: &str, records: &[Record], ways: Vec<Way>, before: &[f64]) -> Vec<f64> {
+    let (rows, times) = measured(ways);
+    assert!(rows > 0, "the report has rows");
+    let [length, count] = counts(records);
+    line(&[name, &length, &count, &rows.to_string()], &times, before);
+    times
 }
 
-fn minus(event: [u8; 2], offset: u8) -> [u8; 7] {
-    [2, event[0], event[1], offset, 0, 0, 0]
+fn by_engine<'a>(log: Log<'a>, moment: u32, page: &'a [u8]) -> Way<'a> {
+    let mut engine = Engine::new();
+    Box::new(move || engine.report(log, moment, page))
 }
 
-fn leaf(event: [u8; 2], lower: [u8; 7], upper: [u8; 7]) -> Vec<u8> {
-    [&[3][..], &event, &lower, &upper].concat()
+fn by_second<'a>(report: Report, log: Log<'a>, moment: u32, page: &'a [u8]) -> Way<'a> {
+    Box::new(move || report(log.terms, log.buffer, log.used, moment, page).into())
 }
 
-fn declared() -> Vec<u8> {
-    [
-        [1, SHARED, 0x0F, 0, 2],
-        [1, REVOKED, 0x04, 0, 2],
-        [1, WRITTEN, 0x14, 0, 4],
-    ]
-    .concat()
+fn whole<'a>(terms: &'a [u8], log: &'a [u8]) -> Log<'a> {
+    Log {
+        terms,
+        buffer: log,
+        used: log.len(),
+    }
 }
 
-/// Schema 0: no writing for 100 minutes from a revocation on.
-fn sample() -> Vec<u8> {
-    let revoked = leaf([0, REVOKED], ZERO, OPEN);
-    let written = leaf([0, WRITTEN], plus([0, REVOKED], 0), plus([0, REVOKED], 100));
-    [&[2, 3, SHARED, 1, 3][..], &ALWAYS, &revoked, &written].concat()
+/// A moment after everything.
+fn late(records: &[Record]) -> u32 {
+    last_stamp(records) + 1_000
 }
 
-/// Schema 1, for revocations: what follows once schema 0 is violated.
-fn citing() -> Vec<u8> {
-    let violated = [VIOLATED, 0];
-    let create = leaf(violated, ZERO, OPEN);
-    let detach = leaf([0, WRITTEN], minus(violated, 20), plus(violated, 20));
-    let consequent = leaf([0, WRITTEN], plus(violated, 1), plus([DETACHED, 0], 200));
-    [&[2, 1, REVOKED, 2, 2][..], &create, &detach, &consequent].concat()
+fn blank(page: Page, log: Log, moment: u32) -> Vec<u8> {
+    let rows = match page {
+        Page::Room(subjects) => 5 * subjects * (log.used / SHARE),
+        Page::Exact => TABLES(log.terms, log.buffer, log.used, moment, &blank(ROOM, log, moment)).value as usize,
+    };
+    vec![0; ROW * rows]
 }
 
-/// Schema 2, for shares again: what follows once schema 1 is detached.
-fn chained() -> Vec<u8> {
-    let create = leaf([CREATED, 1], ZERO, OPEN);
-    let detach = leaf([DETACHED, 1], plus([CREATED, 1], 0), OPEN);
-    let consequent = leaf([0, WRITTEN], minus([DETACHED, 1], 30), plus([VIOLATED, 1], 30));
-    [&[2, 2, SHARED, 3, 1][..], &create, &detach, &consequent].concat()
+/// How many bytes and how many records a log has.
+fn counts(records: &[Record]) -> [String; 2] {
+    [bytes(records).len(), records.len()].map(|count| count.to_string())
+}
+
+/// Calls 2 and 3 on the sample terms.
+fn checks_and_appends() {
+    let title = "Check log and append under the sample terms, by log length.";
+    head(title, CHECK, &["second"], "growth");
+    let terms = shares::sample();
+    lines(&ALL, 0, |records, before| {
+        check_line("check log", &terms, records, before)
+    });
+    lines(&ALL, WRITE, |records, before| append_line(&terms, records, before));
+}
+
+/// Prints a line for call 2 and gives its times.
+fn check_line(name: &str, terms: &[u8], records: &[Record], before: &[f64]) -> Vec<f64> {
+    let log = bytes(records);
+    let log = whole(terms, &log);
+    let mut engine = Engine::new();
+    let ways: Vec<Way> = vec![
+        Box::new(|| engine.check_log(log)),
+        Box::new(|| checked(second::check_log(log.terms, log.buffer, log.used))),
+    ];
+    call_line(name, records, ways, before)
+}
+
+/// Prints a line for ways of one call and gives their times.
+fn call_line(name: &str, records: &[Record], ways: Vec<Way>, before: &[f64]) -> Vec<f64> {
+    let (_, times) = measured(ways);
+    let [length, count] = counts(records);
+    line(&[name, &length, &count], &times, before);
+    times
+}
+
+fn checked(number: u32) -> Answer {
+    Answer {
+        number,
+        value: 0,
+        memory: Vec::new(),
+        strayed: false,
+    }
+}
+
+/// Prints a line for call 3, whose event just fits, and gives its times. Each call finds the buffer as the first one did.
+fn append_line(terms: &[u8], records: &[Record], before: &[f64]) -> Vec<f64> {
+    let event = bytes(&[shares::one_more(records)]);
+    let log = bytes(records);
+    let buffer = [&log[..], &[0; WRITE]].concat();
+    let log = Log {
+        terms,
+        buffer: &buffer,
+        used: log.len(),
+    };
+    let mut engine = Engine::new();
+    let ways: Vec<Way> = vec![
+        Box::new(|| engine.append(log, &event)),
+        Box::new(|| second::append(log.terms, log.buffer, log.used, &event).into()),
+    ];
+    call_line("append", records, ways, before)
+}
+
+/// Reports under terms with as many leaves as there may be.
+fn many_leaves() {
+    let terms = shares::leaves();
+    let mut reports = Reports {
+        terms: &terms,
+        page: Page::Room(shares::LEAVES_SUBJECTS),
+        others: &[TABLES],
+    };
+    let name = "16 schemas, 16 leaves a clause";
+    let title = "Reports under terms with many leaves, by log length.";
+    head(title, REPORT, &["tables"], "growth");
+    lines(&ALL, 0, |records, before| reports.line(name, records, before));
+    let title =
+        "The same by plain evaluation. Longer logs are left out: twice the log takes it about four times as long.";
+    head(title, REPORT, &["plain"], "growth");
+    reports.others = &[PLAIN];
+    lines(&[PLAIN_PART], 0, |records, before| reports.line(name, records, before));
+}
+
+/// Calls 4 and 2 on a full log, and on the same with values that share chains.
+fn one_hash() {
+    let terms = shares::sample();
+    let usual = shares(LOG_LIMIT / SHARE);
+    let logs = [
+        ("one hash", shares::one_hash(&usual)),
+        ("few chains", shares::few_chains(&usual)),
+    ];
+    let reports = Reports {
+        terms: &terms,
+        page: ROOM,
+        others: &[PLAIN, TABLES],
+    };
+    let title = "Reports on a full log whose values share chains; against the first line.";
+    head(title, REPORT, &["plain", "tables"], "against usual");
+    let before = reports.line(&chained("usual", &usual), &usual, &[]);
+    for (name, log) in &logs {
+        reports.line(&chained(name, log), log, &before);
+    }
+    head("Check log on the same.", CHECK, &["second"], "against usual");
+    let before = check_line("usual", &terms, &usual, &[]);
+    for (name, log) in &logs {
+        check_line(name, &terms, log, &before);
+    }
+}
+
+/// A name, and how many chains the words of a log stand in.
+fn chained(name: &str, records: &[Record]) -> String {
+    let chains = shares::chains(records);
+    format!("{name}: {} chains, the longest of {} words", chains.len(), chains[0])
+}
+
+#[cfg(not(sqlite))]
+fn database() {
+    println!("\nSQLite is left out: libsqlite3-dev is not installed.");
+}
+
+/// The sample's report by SQLite, its tables filled before the clock starts.
+#[cfg(sqlite)]
+fn database() {
+    let title = format!("Reports by SQLite {} in memory, log loaded.", sqlite::version());
+    let others = ["SQLite by stage", "SQLite by subject", "SQLite lookups"];
+    head(&title, REPORT, &others, "growth");
+    let terms = shares::sample();
+    lines(&ALL, 0, |records, before| database_line(&terms, records, before));
+}
+
+#[cfg(sqlite)]
+fn database_line(terms: &[u8], records: &[Record], before: &[f64]) -> Vec<f64> {
+    let log = bytes(records);
+    let log = whole(terms, &log);
+    let page = blank(ROOM, log, late(records));
+    let database = sqlite::Database::new(records);
+    let ways = |moment| {
+        vec![
+            by_engine(log, moment, &page),
+            database.rows(sqlite::BY_STAGE, moment, &page),
+            database.rows(sqlite::BY_SUBJECT, moment, &page),
+            database.lookups(moment, &page),
+        ]
+    };
+    measure::answered(&mut ways(middle(records)));
+    report_line("sample share", records, ways(late(records)), before)
+}
+
+/// The stamp of a share in the middle: a row is timed at it, and has to be left out of the report at that moment.
+#[cfg(sqlite)]
+fn middle(records: &[Record]) -> u32 {
+    let stamps: Vec<u32> = records
+        .iter()
+        .filter(|record| record.1 == shares::SHARED)
+        .map(|record| record.0)
+        .collect();
+    stamps[stamps.len() / 2]
 }
