@@ -2,10 +2,11 @@
 --     expression-as                                   what is known of an expression, as the code told it
 --     leaf-times, and-times, or-times, except-times   its times, case by case
 --     always-times, nothing-times
+--     occurs-times, fails-times                       both times, where it occurs and where it does not
 --     stage-whole, stage-here                         a stage's time from its clauses
 -- Assumes nothing.
 use Prim.Native.Nat.{ℕ, _+_, _*_, _<_}
-use mathlib.Core.Path.{_≡_}
+use mathlib.Core.Path.{_≡_, sym, ap₂}
 use mathlib.Core.List.{List}
 use lib.ListN.{length, getD}
 use Rattle.meaning.specs.declared.Time.{Time}
@@ -19,6 +20,7 @@ use Rattle.meaning.specs.Terms.{Expr, leaf, and, or, except, always, schemaAt}
 use Rattle.meaning.specs.Meaning.{cited, andOf, orOf, exceptOf, leafOccurrence, leafFailure, timesOf, stageFrom, stageStep, stageTime}
 use Rattle.format.specs.Grammar.{exprLimit, fileOf}
 use Rattle.format.specs.Fields.{neither, exprAt, termsOf}
+use Rattle.meaning.proofs.NeverBoth.{occurs-alone}
 use Rattle.meaning.proofs.Equation.{time-equation}
 use Rattle.format.proofs.FieldLaws.{neither-silent}
 use Rattle.grammar.specs.Places.{Starts}
@@ -73,6 +75,17 @@ module _ (terms log : List ℕ) (k subject : ℕ) where
     nothing-times e =
         let silent = neither-silent (cited k (stageTime (termsOf terms) (logIn terms log))) (termsOf terms) (logIn terms log) (recordIn terms log subject) in
         rw (e, silent .0, silent .1)
+
+module _ (terms log : List ℕ) (k subject : ℕ) (x : Expr Leaf) where
+  -- the times of an expression that occurs: it does not fail
+  pub occurs-times : {n : ℕ} → timesIn terms log k subject x .occurs ≡ At n → record { occurs = At n; fails = Never } ≡ timesIn terms log k subject x
+  unfolding under
+  occurs-times e = ap₂ (λ (o f : Time). record { occurs = o; fails = f }) (sym e) (sym (occurs-alone _ _ _ _ x e))
+
+  -- of one that does not occur
+  pub fails-times : {f : Time} → timesIn terms log k subject x .occurs ≡ Never → f ≡ timesIn terms log k subject x .fails
+      → record { occurs = Never; fails = f } ≡ timesIn terms log k subject x
+  fails-times e d = ap₂ (λ (o f : Time). record { occurs = o; fails = f }) (sym e) d
 
 -- the times of the clause of rank k, as it is read at its start
 abbrev pub clauseIn : List ℕ → List ℕ → List ℕ → ℕ → ℕ → Times

@@ -1,13 +1,14 @@
 -- `clause_times` meets its contract, its calls within the cycle being smaller: one law for each time that is needed. Assumes nothing.
 use Prim.Native.Nat.{ℕ, _+_, _*_, _≤_, _<_}
 use native.Mathlib.Omega.{arith}
-use mathlib.Core.Path.{_≡_, refl}
+use mathlib.Core.Path.{_≡_, refl, sym, _∙_}
 use borrow.Author.Needs.{needs}
 use Rattle.format.specs.Grammar.{exprLimit}
 use Rattle.times.specs.declared.Needed.{Needed}
 use Rattle.times.specs.NeededTimes.{neededOf}
 use Rattle.index.specs.Chains.{Ready}
 use Rattle.evaluate.specs.Seen.{Posed}
+use Rattle.evaluate.proofs.Expressions.{occurs-times, fails-times}
 use Rattle.table.proofs.TableLaws.{schemas-few}
 use Rattle.table.proofs.start_in.Reads as start-in
 use Rattle.evaluate.proofs.failure.Reads as failure
@@ -42,9 +43,19 @@ failure-returns : (t : ℕ) → lts.Need-returns-3 (claims t) (clause-times-entr
 unfolding neededOf exprLimit
 failure-returns t c = rw (c .before .enum-told3 .given .1, c .failure .ensures, c .before .before .before .start-in .ensures)
 
-both-return : (t : ℕ) → lts.Need-returns-4 (claims t) (clause-times-entry t) clause-times.Post
+occurs-returns : (t : ℕ) → lts.Need-returns-4 (claims t) (clause-times-entry t) clause-times.Post
 unfolding neededOf exprLimit
-both-return t c = rw (c .before .before .enum-told4 .given .1, c .before .occurrence2 .ensures, c .failure2 .ensures, c .before .before .before .before .start-in .ensures)
+occurs-returns t c =
+    let found = c .before .before .before in
+    let start = found .before .before .before .start-in .ensures in
+    rw (found .before .enum-told4 .given .1) (occurs-times _ _ _ _ _ (rw start at (sym (found .occurrence2 .ensures) ∙ c .before .minute .given .1)))
+
+fails-returns : (t : ℕ) → lts.Need-returns-5 (claims t) (clause-times-entry t) clause-times.Post
+unfolding neededOf exprLimit
+fails-returns t c =
+    let found = c .before .before .before in
+    let start = found .before .before .before .start-in .ensures in
+    rw (found .before .enum-told4 .given .1) (fails-times _ _ _ _ _ (rw start at (sym (found .occurrence2 .ensures) ∙ c .before .enum-told5 .given .1)) (rw start at (c .failure2 .ensures)))
 
 pub clause-times-closed : {M : Type 1} (t : ℕ) → lts.Closed (claims t) (clause-times-entry t) clause-times.Post M
 unfolding weight
@@ -57,8 +68,11 @@ clause-times-closed t = lts.spec (claims t) (clause-times-entry t) clause-times.
     (λ c κs. asks t (c .before .before) _ (c .enum-told3 .given .1) (omega arith))
     (λ c. search needs)
     (λ c κs. asks t (c .before .before) _ (c .enum-told4 .given .1) (omega arith))
-    (λ c κs. asks t (c .before .before .before) _ (c .before .enum-told4 .given .1) (omega arith))
+    (λ c. search needs)
+    (λ c. search needs)
+    (λ c κs. asks t (c .before .before .before .before .before) _ (c .before .before .before .enum-told4 .given .1) (omega arith))
     (neither-returns t)
     (occurrence-returns t)
     (failure-returns t)
-    (both-return t)
+    (occurs-returns t)
+    (fails-returns t)

@@ -1,0 +1,124 @@
+-- An expression that occurs does not fail: one of its two times is none.
+--     NotBoth, not-both     of every expression
+--     occurs-alone          where it occurs it does not fail
+-- Assumes nothing.
+use Prim.Native.Nat.{ℕ}
+use native.Mathlib.Omega.{arith}
+use mathlib.Core.Path.{_≡_, refl, ap, sym, _∙_}
+use mathlib.Core.Logic.{_⊎_, inl, inr}
+use mathlib.Core.List.{[], _∷_}
+use borrow.Author.Tests.{le-leb}
+use Rattle.meaning.specs.declared.Time.{Time}
+use Rattle.meaning.specs.declared.Time.the-variants.{At, Never}
+use Rattle.meaning.specs.declared.Event.{Event}
+use Rattle.meaning.specs.declared.Edge.{Edge}
+use Rattle.meaning.specs.declared.Edge.the-variants.{Minute, Endless}
+use Rattle.meaning.specs.declared.Leaf.{Leaf}
+use Rattle.meaning.specs.declared.Times.{Times}
+use Rattle.meaning.specs.Time.{laterOf, earlierOf, from, onceKnown, ifNever}
+use Rattle.meaning.specs.Terms.{Terms, Expr, leaf, and, or, except, always}
+use Rattle.meaning.specs.Log.{Record, Log}
+use Rattle.meaning.specs.Meaning.{StageTimes, earliest, fromEdge, beforeEdge, reached, edgeOf, happening, andOf, orOf, exceptOf, firstWithin, known, leafOccurrence, failureAt, leafFailure, timesOf}
+
+-- one of two times is none
+abbrev pub NotBoth : Times → Type 0
+NotBoth a = (a .occurs ≡ Never) ⊎ (a .fails ≡ Never)
+
+-- a minute is not none
+not-none : {A : Type 0} {n : ℕ} → At n ≡ Never → A
+not-none e = let z : _≡_ {A = ℕ} 0 1 = cc in absurd (omega arith)
+
+-- the later of two times is none where one of them is
+later-first : {a : Time} (b : Time) → a ≡ Never → laterOf a b ≡ Never
+unfolding laterOf
+later-first b e = rw e
+
+later-second : (a : Time) {b : Time} → b ≡ Never → laterOf a b ≡ Never
+unfolding laterOf
+later-second (At n) e = rw e
+later-second Never e = refl
+
+-- the earlier one where both are
+earlier-both : {a b : Time} → a ≡ Never → b ≡ Never → earlierOf a b ≡ Never
+unfolding earlierOf
+earlier-both e f = rw (e, f)
+
+-- and only there
+earlier-none : (a b : Time) → earlierOf a b ≡ Never → (a ≡ Never) × (b ≡ Never)
+unfolding earlierOf
+earlier-none (At a) (At b) e = not-none e
+earlier-none (At a) Never e = not-none e
+earlier-none Never b e = (refl, e)
+
+-- both
+both-and : (a b : Times) → NotBoth a → NotBoth b → NotBoth (andOf a b)
+unfolding andOf
+both-and a b (inl p) q = inl (later-first (b .occurs) p)
+both-and a b (inr p) (inl q) = inl (later-second (a .occurs) q)
+both-and a b (inr p) (inr q) = inr (earlier-both p q)
+
+-- one of two
+both-or : (a b : Times) → NotBoth a → NotBoth b → NotBoth (orOf a b)
+unfolding orOf
+both-or a b (inr p) q = inr (later-first (b .fails) p)
+both-or a b (inl p) (inr q) = inr (later-second (a .fails) q)
+both-or a b (inl p) (inl q) = inl (earlier-both p q)
+
+-- one without the other
+both-except : (a b : Times) → NotBoth a → NotBoth b → NotBoth (exceptOf a b)
+unfolding exceptOf
+both-except a b (inl p) q = inl (later-first (b .fails) p)
+both-except a b (inr p) (inr q) = inl (later-second (a .occurs) q)
+both-except a b (inr p) (inl q) = inr (earlier-both p q)
+
+-- what does not happen from 0 on does not happen from any edge on
+from-start : (l : Edge) (t : Time) → fromEdge (Minute 0) t ≡ Never → fromEdge l t ≡ Never
+unfolding fromEdge from
+from-start (Minute l) (At n) e = not-none {n = n} (rw (le-leb 0 n (omega arith)) at e)
+from-start (Minute l) Never e = refl
+from-start Endless t e = refl
+
+-- a leaf by its windows: with something in its window there is something before its upper edge
+by-windows : (early inside end : Time) (g h : ℕ) → (early ≡ Never → inside ≡ Never)
+    → (laterOf (At g) (laterOf (At h) inside) ≡ Never) ⊎ (laterOf (At h) (ifNever early end (laterOf (At g) (ifNever inside end Never))) ≡ Never)
+unfolding laterOf ifNever
+by-windows early Never end g h i = inl refl
+by-windows Never (At n) end g h i = inl (ap (λ (t : Time). laterOf (At g) (laterOf (At h) t)) (i refl))
+by-windows (At m) (At n) end g h i = inr refl
+
+module _ (times : StageTimes) (terms : Terms) (subject : Record) where
+  -- a window in which nothing happens from 0 on has nothing from any edge on
+  window-empty : (log : Log) (l u : Edge) (e : Event) → firstWithin times terms log subject (Minute 0) u e ≡ Never → firstWithin times terms log subject l u e ≡ Never
+  unfolding firstWithin earliest
+  window-empty [] l u e none = refl
+  window-empty (r ∷ log) l u e none =
+      let each = earlier-none _ _ none in
+      earlier-both (from-start l (beforeEdge u (happening times terms subject e r)) (each .0)) (window-empty log l u e (each .1))
+
+  module _ (log : Log) where
+    -- a leaf
+    both-leaf : (x : Leaf) → NotBoth (record { occurs = leafOccurrence times terms log subject x; fails = leafFailure times terms log subject x })
+    unfolding leafOccurrence leafFailure failureAt onceKnown
+    both-leaf x = go (known times terms log subject (x .lower)) refl (known times terms log subject (x .upper)) refl
+      where
+        go : (lower : Time) → known times terms log subject (x .lower) ≡ lower → (upper : Time) → known times terms log subject (x .upper) ≡ upper
+            → NotBoth (record { occurs = leafOccurrence times terms log subject x; fails = leafFailure times terms log subject x })
+        go Never e upper f = inl (rw e)
+        go (At g) e Never f = inr (rw f)
+        go (At g) e (At h) f =
+            rw (e, f)
+            (by-windows (firstWithin times terms log subject (Minute 0) (edgeOf (x .upper) h) (x .event)) (firstWithin times terms log subject (edgeOf (x .lower) g) (edgeOf (x .upper) h) (x .event))
+            (reached (edgeOf (x .upper) h)) g h (window-empty log (edgeOf (x .lower) g) (edgeOf (x .upper) h) (x .event)))
+
+    -- every expression
+    pub not-both : (x : Expr Leaf) → NotBoth (timesOf times terms log subject x)
+    unfolding timesOf
+    not-both (leaf x) = both-leaf x
+    not-both (and a b) = both-and _ _ (not-both a) (not-both b)
+    not-both (or a b) = both-or _ _ (not-both a) (not-both b)
+    not-both (except a b) = both-except _ _ (not-both a) (not-both b)
+    not-both always = inr refl
+
+    -- one that occurs does not fail
+    pub occurs-alone : (x : Expr Leaf) {n : ℕ} → timesOf times terms log subject x .occurs ≡ At n → timesOf times terms log subject x .fails ≡ Never
+    occurs-alone x e = elim (not-both x) [ inl p ↦ not-none (sym e ∙ p) | inr p ↦ p ]
