@@ -237,9 +237,9 @@ fn one_hash() {
     };
     let title = "Reports on a full log whose values share chains; against the first line.";
     head(title, REPORT, &["plain", "tables"], "against usual");
-    let before = reports.line(&chained("usual", &usual), &usual, &[]);
+    let before = reports.line(&with_chains("usual", &usual), &usual, &[]);
     for (name, log) in &logs {
-        reports.line(&chained(name, log), log, &before);
+        reports.line(&with_chains(name, log), log, &before);
     }
     head("Check log on the same.", CHECK, &["second"], "against usual");
     let before = check_line("usual", &terms, &usual, &[]);
@@ -249,7 +249,7 @@ fn one_hash() {
 }
 
 /// A name, and how many chains the words of a log stand in.
-fn chained(name: &str, records: &[Record]) -> String {
+fn with_chains(name: &str, records: &[Record]) -> String {
     let chains = shares::chains(records);
     format!("{name}: {} chains, the longest of {} words", chains.len(), chains[0])
 }

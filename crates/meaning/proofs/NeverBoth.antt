@@ -28,17 +28,18 @@ NotBoth a = (a .occurs ≡ Never) ⊎ (a .fails ≡ Never)
 not-none : {A : Type 0} {n : ℕ} → At n ≡ Never → A
 not-none e = let z : _≡_ {A = ℕ} 0 1 = cc in absurd (omega arith)
 
--- the later of two times is none where one of them is
+-- the later of two times is none where the first is
 later-first : {a : Time} (b : Time) → a ≡ Never → laterOf a b ≡ Never
 unfolding laterOf
 later-first b e = rw e
 
+-- and where the second is
 later-second : (a : Time) {b : Time} → b ≡ Never → laterOf a b ≡ Never
 unfolding laterOf
 later-second (At n) e = rw e
 later-second Never e = refl
 
--- the earlier one where both are
+-- the earlier of two times is none where both are
 earlier-both : {a b : Time} → a ≡ Never → b ≡ Never → earlierOf a b ≡ Never
 unfolding earlierOf
 earlier-both e f = rw (e, f)
@@ -50,26 +51,26 @@ earlier-none (At a) (At b) e = not-none e
 earlier-none (At a) Never e = not-none e
 earlier-none Never b e = (refl, e)
 
--- both
-both-and : (a b : Times) → NotBoth a → NotBoth b → NotBoth (andOf a b)
+-- of a and b
+and-not-both : (a b : Times) → NotBoth a → NotBoth b → NotBoth (andOf a b)
 unfolding andOf
-both-and a b (inl p) q = inl (later-first (b .occurs) p)
-both-and a b (inr p) (inl q) = inl (later-second (a .occurs) q)
-both-and a b (inr p) (inr q) = inr (earlier-both p q)
+and-not-both a b (inl p) q = inl (later-first (b .occurs) p)
+and-not-both a b (inr p) (inl q) = inl (later-second (a .occurs) q)
+and-not-both a b (inr p) (inr q) = inr (earlier-both p q)
 
--- one of two
-both-or : (a b : Times) → NotBoth a → NotBoth b → NotBoth (orOf a b)
+-- of a or b
+or-not-both : (a b : Times) → NotBoth a → NotBoth b → NotBoth (orOf a b)
 unfolding orOf
-both-or a b (inr p) q = inr (later-first (b .fails) p)
-both-or a b (inl p) (inr q) = inr (later-second (a .fails) q)
-both-or a b (inl p) (inl q) = inl (earlier-both p q)
+or-not-both a b (inr p) q = inr (later-first (b .fails) p)
+or-not-both a b (inl p) (inr q) = inr (later-second (a .fails) q)
+or-not-both a b (inl p) (inl q) = inl (earlier-both p q)
 
--- one without the other
-both-except : (a b : Times) → NotBoth a → NotBoth b → NotBoth (exceptOf a b)
+-- of a except b
+except-not-both : (a b : Times) → NotBoth a → NotBoth b → NotBoth (exceptOf a b)
 unfolding exceptOf
-both-except a b (inl p) q = inl (later-first (b .fails) p)
-both-except a b (inr p) (inr q) = inl (later-second (a .occurs) q)
-both-except a b (inr p) (inl q) = inr (earlier-both p q)
+except-not-both a b (inl p) q = inl (later-first (b .fails) p)
+except-not-both a b (inr p) (inr q) = inl (later-second (a .occurs) q)
+except-not-both a b (inr p) (inl q) = inr (earlier-both p q)
 
 -- what does not happen from 0 on does not happen from any edge on
 from-start : (l : Edge) (t : Time) → fromEdge (Minute 0) t ≡ Never → fromEdge l t ≡ Never
@@ -96,10 +97,10 @@ module _ (times : StageTimes) (terms : Terms) (subject : Record) where
       earlier-both (from-start l (beforeEdge u (happening times terms subject e r)) (each .0)) (window-empty log l u e (each .1))
 
   module _ (log : Log) where
-    -- a leaf
-    both-leaf : (x : Leaf) → NotBoth (record { occurs = leafOccurrence times terms log subject x; fails = leafFailure times terms log subject x })
+    -- of a leaf
+    leaf-not-both : (x : Leaf) → NotBoth (record { occurs = leafOccurrence times terms log subject x; fails = leafFailure times terms log subject x })
     unfolding leafOccurrence leafFailure failureAt onceKnown
-    both-leaf x = go (known times terms log subject (x .lower)) refl (known times terms log subject (x .upper)) refl
+    leaf-not-both x = go (known times terms log subject (x .lower)) refl (known times terms log subject (x .upper)) refl
       where
         go : (lower : Time) → known times terms log subject (x .lower) ≡ lower → (upper : Time) → known times terms log subject (x .upper) ≡ upper
             → NotBoth (record { occurs = leafOccurrence times terms log subject x; fails = leafFailure times terms log subject x })
@@ -110,13 +111,13 @@ module _ (times : StageTimes) (terms : Terms) (subject : Record) where
             (by-windows (firstWithin times terms log subject (Minute 0) (edgeOf (x .upper) h) (x .event)) (firstWithin times terms log subject (edgeOf (x .lower) g) (edgeOf (x .upper) h) (x .event))
             (reached (edgeOf (x .upper) h)) g h (window-empty log (edgeOf (x .lower) g) (edgeOf (x .upper) h) (x .event)))
 
-    -- every expression
+    -- of every expression
     pub not-both : (x : Expr Leaf) → NotBoth (timesOf times terms log subject x)
     unfolding timesOf
-    not-both (leaf x) = both-leaf x
-    not-both (and a b) = both-and _ _ (not-both a) (not-both b)
-    not-both (or a b) = both-or _ _ (not-both a) (not-both b)
-    not-both (except a b) = both-except _ _ (not-both a) (not-both b)
+    not-both (leaf x) = leaf-not-both x
+    not-both (and a b) = and-not-both _ _ (not-both a) (not-both b)
+    not-both (or a b) = or-not-both _ _ (not-both a) (not-both b)
+    not-both (except a b) = except-not-both _ _ (not-both a) (not-both b)
     not-both always = inr refl
 
     -- one that occurs does not fail

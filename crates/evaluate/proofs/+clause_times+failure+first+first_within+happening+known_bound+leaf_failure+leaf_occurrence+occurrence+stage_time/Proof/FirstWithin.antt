@@ -1,5 +1,5 @@
 -- `first_within` meets its contract, its calls within the cycle being smaller: a walk along the chain of the subject's mark. Assumes nothing.
-use Prim.Native.Nat.{ℕ, _+_, _<_}
+use Prim.Native.Nat.{ℕ, _<_}
 use native.Mathlib.Omega.{arith}
 use mathlib.Core.Path.{_≡_, sym, _∙_}
 use mathlib.Core.Logic.{inl, inr}
