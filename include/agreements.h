@@ -15,17 +15,22 @@
  *   pointer, also under valgrind, and behaves like an empty array. Null with another length is not allowed.
  * - Nothing is kept from one call to the next: the archive has no writable data, and needs memcpy and memset only. So several threads may
  *   call at once, each with its own memory to be written. Terms, and a log that is only read, may be lent to several at once.
- * - No proof bounds the stack. By trials, the longest chain of citations would take 430 KB of it; give each calling thread 1 MB.
+ * - No proof bounds the stack. By trials, a call takes 50 KB of it, most of that for one table (check terms 6 KB), and a report under the
+ *   longest chain of citations would take 400 KB; give each calling thread 1 MB.
  *
  * Time
- * Under terms that cite no stage a report takes up to about four times as long for a log twice as long (docs/SPEED.md). On a page with room
- * for five rows for each subject under each schema it takes about half as long as on a shorter one that holds the rows: on
- * the shorter one they are counted before they are written.
+ * Under terms that cite no stage a call takes about twice as long for a log twice as long, if each subject matches a few records
+ * (docs/SPEED.md); where each matches a fixed part of the log, a report takes up to four times as long. On a page with room for five rows for
+ * each subject under each schema it takes about two thirds of its time on a shorter one that holds the rows: on the shorter one they are
+ * counted before they are written.
+ *
+ * Records are looked up by a hash of their values, which is no secret. Whoever picks values with equal hashes makes each lookup walk through
+ * most values of the log: on full logs made so under the sample's terms a report and a check took 40 to 110 times as long.
  *
  * A stage that a clause cites is worked out anew for each citation and each record that matches, and so is each stage that this one cites
  * in turn. So the cost multiplies along a chain of citations, and a report under accepted terms can take very long. For a log of one record
- * and a chain of authorizations, each clause a leaf that cites the stage before it in its event and in both bounds, four schemas took 0.15 s
- * and five took 8 s; six would take minutes. A service that takes terms from strangers bounds this itself, by the length of such chains or by
+ * and a chain of authorizations, each clause a leaf that cites the stage before it in its event and in both bounds, four schemas took 0.1 s
+ * and five took 6 s; six would take minutes. A service that takes terms from strangers bounds this itself, by the length of such chains or by
  * a time after which it gives up. The other calls do not work out stages.
  */
 #ifndef AGREEMENTS_H
