@@ -9,7 +9,7 @@ use Rattle.meaning.specs.declared.Time.the-variants.{At, Never}
 use Rattle.meaning.specs.declared.Stage.{Stage}
 use Rattle.meaning.specs.declared.Stage.the-variants.{Created, Detached, Expired, Discharged, Violated}
 use Rattle.meaning.specs.declared.NormType.{NormType}
-use Rattle.meaning.specs.declared.Leaf.{Leaf}
+use Rattle.meaning.specs.declared.Atom.{Atom}
 use Rattle.meaning.specs.declared.Times.{Times}
 use Rattle.meaning.specs.Time.{laterOf}
 use Rattle.meaning.specs.Terms.{Terms, Expr, schemaAt, rank}
@@ -64,7 +64,7 @@ pub stageStep-same : (terms : Terms) (log : Log) (times times′ : StageTimes) (
 unfolding stageStep
 stageStep-same terms log times times′ s j same subject = ap (laterOf (At (subject .stamp))) (stageFrom-same s j (schemaAt terms j .type) (clause _ _) (clause _ _) (clause _ _))
   where
-    clause : (k : ℕ) (x : Expr Leaf) → k ≤ rank s j → timesOf (cited k times) terms log subject x ≡ timesOf (cited k times′) terms log subject x
+    clause : (k : ℕ) (x : Expr Atom) → k ≤ rank s j → timesOf (cited k times) terms log subject x ≡ timesOf (cited k times′) terms log subject x
     clause k x h = rw (cited-same k times times′ (λ s′ j′ q. same s′ j′ (omega arith)))
 
 -- a stage's time does not depend on the depth, once that is above its rank

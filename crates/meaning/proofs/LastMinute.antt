@@ -14,7 +14,9 @@ use Rattle.meaning.specs.declared.Event.{Event}
 use Rattle.meaning.specs.declared.Event.the-variants.{Kind, StageOf}
 use Rattle.meaning.specs.declared.Bound.{Bound}
 use Rattle.meaning.specs.declared.Bound.the-variants.{Plain, Plus, Minus, Open}
-use Rattle.meaning.specs.declared.Leaf.{Leaf}
+use Rattle.meaning.specs.declared.CountLeaf.{CountLeaf}
+use Rattle.meaning.specs.declared.Atom.{Atom}
+use Rattle.meaning.specs.declared.Atom.the-variants.{Happens, Counts}
 use Rattle.meaning.specs.declared.Edge.{Edge}
 use Rattle.meaning.specs.declared.Edge.the-variants.{Minute, Endless}
 use Rattle.meaning.specs.declared.Row.{Row}
@@ -23,10 +25,10 @@ use Rattle.meaning.specs.Time.{laterOf, before, cut, lastMinute}
 use Rattle.meaning.specs.Stages.{stages}
 use Rattle.meaning.specs.Terms.{Terms, Expr, leaf, and, or, except, always, kindOf, rank}
 use Rattle.meaning.specs.Log.{Record, Log, correlate}
-use Rattle.meaning.specs.Meaning.{StageTimes, cited, earliest, reached, timeBy, happening, first, firstWithin, known, leafOccurrence, failureAt, leafFailure, timesOf, stageStep, timesWithin, stageTime}
+use Rattle.meaning.specs.Meaning.{StageTimes, cited, earliest, reached, timeBy, happening, first, firstWithin, known, leafOccurrence, failureAt, leafFailure, countTime, timesOf, stageStep, timesWithin, stageTime}
 use Rattle.meaning.specs.Rows.{rowOf, rowAt, isSubject, subjectRows, timedRows}
 use Rattle.meaning.proofs.ListLaws.{all-flatMap, all-each}
-use Rattle.meaning.proofs.TimeLaws.{before-lt, before-le, Side, early, late, side, before-later, before-earlier, before-onceKnown, before-ifNever, before-never}
+use Rattle.meaning.proofs.TimeLaws.{before-lt, before-le, Side, early, late, side, before-later, before-earlier, before-onceKnown, before-ifNever, before-onlyIf, before-never}
 use Rattle.meaning.proofs.EdgeLaws.{before-fromEdge, before-beforeEdge}
 use Rattle.meaning.proofs.RelatedTimes.{Kept, Related, and-related, or-related, except-related, stage-related}
 
@@ -101,9 +103,14 @@ module _ (m : ℕ) (past : lastMinute < m) where
     unfolding failureAt
     failureAt-fits lower u e = simp (before-ifNever, before-onceKnown, before-never, known-fits, reached-fits)
 
-    timesOf-fits : (x : Expr Leaf) → Related (Fits m) (timesOf times terms log subject x) (timesOf times terms log subject x)
+    countTime-fits : (passes : ℕ → Bool) (x : CountLeaf) → before m (countTime times terms log subject passes x) ≡ countTime times terms log subject passes x
+    unfolding countTime
+    countTime-fits passes x = simp (before-onceKnown, before-onlyIf, known-fits, reached-fits)
+
+    timesOf-fits : (x : Expr Atom) → Related (Fits m) (timesOf times terms log subject x) (timesOf times terms log subject x)
     unfolding timesOf leafOccurrence leafFailure
-    timesOf-fits (leaf x) = (simp (before-onceKnown, known-fits, within-fits), simp (before-onceKnown, known-fits, failureAt-fits))
+    timesOf-fits (leaf (Happens x)) = (simp (before-onceKnown, known-fits, within-fits), simp (before-onceKnown, known-fits, failureAt-fits))
+    timesOf-fits (leaf (Counts x)) = (countTime-fits _ x, countTime-fits _ x)
     timesOf-fits (and a b) = and-related (Fits m) (fits-kept m) _ _ _ _ (timesOf-fits a) (timesOf-fits b)
     timesOf-fits (or a b) = or-related (Fits m) (fits-kept m) _ _ _ _ (timesOf-fits a) (timesOf-fits b)
     timesOf-fits (except a b) = except-related (Fits m) (fits-kept m) _ _ _ _ (timesOf-fits a) (timesOf-fits b)
@@ -114,7 +121,7 @@ module _ (m : ℕ) (past : lastMinute < m) where
   stageStep-fits times fits terms log log-fits s j r h =
       before-later m _ _ ∙ ap₂ laterOf (before-lt m (r .stamp) (omega arith)) (stage-related (Fits m) (fits-kept m) _ _ _ _ _ _ (clause _ _) (clause _ _) (clause _ _) s _)
     where
-      clause : (k : ℕ) (x : Expr Leaf) → Related (Fits m) (timesOf (cited k times) terms log r x) (timesOf (cited k times) terms log r x)
+      clause : (k : ℕ) (x : Expr Atom) → Related (Fits m) (timesOf (cited k times) terms log r x) (timesOf (cited k times) terms log r x)
       clause k x = timesOf-fits (cited k times) (cited-fits times fits k) terms log log-fits r x
 
   timesWithin-fits : (terms : Terms) (log : Log) → StampsFit log → (n : ℕ) → StagesFit m (timesWithin terms log n)

@@ -1,24 +1,30 @@
 -- An expression that occurs does not fail: one of its two times is none.
 --     NotBoth, not-both     of every expression
+--     count-not-both        of a count
 --     occurs-alone          where it occurs it does not fail
 -- Assumes nothing.
 use Prim.Native.Nat.{ℕ}
 use native.Mathlib.Omega.{arith}
 use mathlib.Core.Path.{_≡_, refl, ap, sym, _∙_}
 use mathlib.Core.Logic.{_⊎_, inl, inr}
+use mathlib.Core.Bool.{Bool, true, false}
 use mathlib.Core.List.{[], _∷_}
-use borrow.Author.Tests.{le-leb}
+use lib.Dec.{leb, ltb}
+use borrow.Author.Tests.{leb-true, le-ltb, le-leb}
 use Rattle.meaning.specs.declared.Time.{Time}
 use Rattle.meaning.specs.declared.Time.the-variants.{At, Never}
 use Rattle.meaning.specs.declared.Event.{Event}
 use Rattle.meaning.specs.declared.Edge.{Edge}
 use Rattle.meaning.specs.declared.Edge.the-variants.{Minute, Endless}
 use Rattle.meaning.specs.declared.Leaf.{Leaf}
+use Rattle.meaning.specs.declared.CountLeaf.{CountLeaf}
+use Rattle.meaning.specs.declared.Atom.{Atom}
+use Rattle.meaning.specs.declared.Atom.the-variants.{Happens, Counts}
 use Rattle.meaning.specs.declared.Times.{Times}
-use Rattle.meaning.specs.Time.{laterOf, earlierOf, from, onceKnown, ifNever}
+use Rattle.meaning.specs.Time.{laterOf, earlierOf, from, onceKnown, ifNever, onlyIf}
 use Rattle.meaning.specs.Terms.{Terms, Expr, leaf, and, or, except, always}
 use Rattle.meaning.specs.Log.{Record, Log}
-use Rattle.meaning.specs.Meaning.{StageTimes, earliest, fromEdge, beforeEdge, reached, edgeOf, happening, andOf, orOf, exceptOf, firstWithin, known, leafOccurrence, failureAt, leafFailure, timesOf}
+use Rattle.meaning.specs.Meaning.{StageTimes, earliest, fromEdge, beforeEdge, reached, edgeOf, happening, andOf, orOf, exceptOf, firstWithin, known, leafOccurrence, failureAt, leafFailure, countWithin, countTime, timesOf}
 
 -- one of two times is none
 abbrev pub NotBoth : Times → Type 0
@@ -87,6 +93,17 @@ by-windows early Never end g h i = inl refl
 by-windows Never (At n) end g h i = inl (ap (λ (t : Time). laterOf (At g) (laterOf (At h) t)) (i refl))
 by-windows (At m) (At n) end g h i = inr refl
 
+-- a count by its number of records: above the threshold, or not
+by-number : (n threshold : ℕ) (end : Time) (g h : ℕ)
+    → (laterOf (At g) (laterOf (At h) (onlyIf (ltb threshold n) end)) ≡ Never) ⊎ (laterOf (At g) (laterOf (At h) (onlyIf (leb n threshold) end)) ≡ Never)
+unfolding laterOf onlyIf
+by-number n threshold end g h = go (leb n threshold) refl
+  where
+    go : (b : Bool) → leb n threshold ≡ b
+        → (laterOf (At g) (laterOf (At h) (onlyIf (ltb threshold n) end)) ≡ Never) ⊎ (laterOf (At g) (laterOf (At h) (onlyIf (leb n threshold) end)) ≡ Never)
+    go true e = inl (rw (le-ltb threshold n (leb-true n threshold e)))
+    go false e = inr (rw e)
+
 module _ (times : StageTimes) (terms : Terms) (subject : Record) where
   -- a window in which nothing happens from 0 on has nothing from any edge on
   window-empty : (log : Log) (l u : Edge) (e : Event) → firstWithin times terms log subject (Minute 0) u e ≡ Never → firstWithin times terms log subject l u e ≡ Never
@@ -111,15 +128,28 @@ module _ (times : StageTimes) (terms : Terms) (subject : Record) where
             (by-windows (firstWithin times terms log subject (Minute 0) (edgeOf (x .upper) h) (x .event)) (firstWithin times terms log subject (edgeOf (x .lower) g) (edgeOf (x .upper) h) (x .event))
             (reached (edgeOf (x .upper) h)) g h (window-empty log (edgeOf (x .lower) g) (edgeOf (x .upper) h) (x .event)))
 
+    -- of a count
+    pub count-not-both : (x : CountLeaf)
+        → NotBoth (record { occurs = countTime times terms log subject (λ n. ltb (x .threshold) n) x; fails = countTime times terms log subject (λ n. leb n (x .threshold)) x })
+    unfolding countTime onceKnown laterOf
+    count-not-both x = go (known times terms log subject (x .lower)) refl (known times terms log subject (x .upper)) refl
+      where
+        go : (lower : Time) → known times terms log subject (x .lower) ≡ lower → (upper : Time) → known times terms log subject (x .upper) ≡ upper
+            → NotBoth (record { occurs = countTime times terms log subject (λ n. ltb (x .threshold) n) x; fails = countTime times terms log subject (λ n. leb n (x .threshold)) x })
+        go Never e upper f = inl (rw e)
+        go (At g) e Never f = inl (rw (e, f))
+        go (At g) e (At h) f = rw (e, f) (by-number (countWithin times terms log subject (edgeOf (x .lower) g) (edgeOf (x .upper) h) (x .kind)) (x .threshold) (reached (edgeOf (x .upper) h)) g h)
+
     -- of every expression
-    pub not-both : (x : Expr Leaf) → NotBoth (timesOf times terms log subject x)
+    pub not-both : (x : Expr Atom) → NotBoth (timesOf times terms log subject x)
     unfolding timesOf
-    not-both (leaf x) = leaf-not-both x
+    not-both (leaf (Happens x)) = leaf-not-both x
+    not-both (leaf (Counts x)) = count-not-both x
     not-both (and a b) = and-not-both _ _ (not-both a) (not-both b)
     not-both (or a b) = or-not-both _ _ (not-both a) (not-both b)
     not-both (except a b) = except-not-both _ _ (not-both a) (not-both b)
     not-both always = inr refl
 
     -- one that occurs does not fail
-    pub occurs-alone : (x : Expr Leaf) {n : ℕ} → timesOf times terms log subject x .occurs ≡ At n → timesOf times terms log subject x .fails ≡ Never
+    pub occurs-alone : (x : Expr Atom) {n : ℕ} → timesOf times terms log subject x .occurs ≡ At n → timesOf times terms log subject x .fails ≡ Never
     occurs-alone x e = elim (not-both x) [ inl p ↦ not-none (sym e ∙ p) | inr p ↦ p ]

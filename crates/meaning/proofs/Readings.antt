@@ -15,7 +15,8 @@ use Rattle.meaning.specs.declared.Event.{Event}
 use Rattle.meaning.specs.declared.Event.the-variants.{Kind, StageOf}
 use Rattle.meaning.specs.declared.Bound.{Bound}
 use Rattle.meaning.specs.declared.Bound.the-variants.{Plain, Plus, Minus, Open}
-use Rattle.meaning.specs.declared.Leaf.{Leaf}
+use Rattle.meaning.specs.declared.Atom.{Atom}
+use Rattle.meaning.specs.declared.Atom.the-variants.{Happens, Counts}
 use Rattle.meaning.specs.declared.Row.{Row}
 use Rattle.meaning.specs.Terms as terms
 use Rattle.meaning.specs.Terms.{EventKind, Expr, and, or, except, always, Schema, Terms}
@@ -36,7 +37,7 @@ abbrev kind : ℕ → ℕ → EventKind
 kind mask key = record { mask = mask; key = key }
 
 -- one schema: type, subject kind, privileged, liable, then create, detach, consequent
-abbrev schema : NormType → ℕ → ℕ → ℕ → Expr Leaf → Expr Leaf → Expr Leaf → List Schema
+abbrev schema : NormType → ℕ → ℕ → ℕ → Expr Atom → Expr Atom → Expr Atom → List Schema
 schema type subject privileged liable create detach consequent =
     record {
       type = type;
@@ -50,8 +51,12 @@ schema type subject privileged liable create detach consequent =
     ∷ []
 
 -- a leaf: an event, a lower and an upper bound
-abbrev leaf : Event → Bound → Bound → Expr Leaf
-leaf event lower upper = terms.leaf (record { event = event; lower = lower; upper = upper })
+abbrev leaf : Event → Bound → Bound → Expr Atom
+leaf event lower upper = terms.leaf (Happens (record { event = event; lower = lower; upper = upper }))
+
+-- a count: more than so many records of the kind with a number, a lower and an upper bound
+abbrev moreThan : ℕ → ℕ → Bound → Bound → Expr Atom
+moreThan threshold kind lower upper = terms.leaf (Counts (record { kind = kind; threshold = threshold; lower = lower; upper = upper }))
 
 -- the events: kinds S, E and F, and a stage of the schema j
 abbrev S : Event
@@ -83,7 +88,7 @@ abbrev kinds : List EventKind
 kinds = kind 0b1 0 ∷ kind 0b11 1 ∷ kind 0b101 2 ∷ []
 
 -- one norm on S
-abbrev norm : NormType → Expr Leaf → Expr Leaf → Expr Leaf → List Schema
+abbrev norm : NormType → Expr Atom → Expr Atom → Expr Atom → List Schema
 norm type create detach consequent = schema type 0 0 0 create detach consequent
 
 -- a log of one record: kind, stamp, values
@@ -101,17 +106,17 @@ abbrev fAt : ℕ → Log
 fAt t = event 2 t (7 ∷ t ∷ [])
 
 -- a clause that never occurs and fails at 0; one that neither occurs nor fails as long as there is no F
-abbrev nothing : Expr Leaf
+abbrev nothing : Expr Atom
 nothing = except always always
 
-abbrev waiting : Expr Leaf
+abbrev waiting : Expr Atom
 waiting = leaf F (Plain 0) Open
 
 -- E before 10, F before 20
-abbrev E10 : Expr Leaf
+abbrev E10 : Expr Atom
 E10 = leaf E (Plain 0) (Plain 10)
 
-abbrev F20 : Expr Leaf
+abbrev F20 : Expr Atom
 F20 = leaf F (Plain 0) (Plain 20)
 
 -- the rows of a log at a moment, under schemas over kinds; over S, E and F; and at the last moment there is
@@ -135,7 +140,7 @@ abbrev row : Stage → ℕ → Row
 row stage t = rowOn 0 7 stage t
 
 -- a clause as the detach clause of an authorization that is always created, S at 0: detached is its occurrence, expired its failure
-abbrev detaching : Expr Leaf → Log → Shown
+abbrev detaching : Expr Atom → Log → Shown
 detaching clause log = reported (norm Authorization always clause nothing) (sAt 0 ++ log)
 
 abbrev occursAt : ℕ → Shown
@@ -147,11 +152,13 @@ failsAt t = rows (row Created 0 ∷ row Expired t ∷ [])
 abbrev doesNeither : Shown
 doesNeither = rows (row Created 0 ∷ [])
 
--- A6: schema 0 is violated at the last minute, 4,294,967,294; schema 1 detaches with F before that plus the offset
+-- A6: schema 0 is violated at the last minute, 4,294,967,294; schema 1 has that detach clause
+abbrev atTheEnd : Expr Atom → List Schema
+atTheEnd clause = norm Commitment always always (leaf E (Plain 0) (Plus S 2147483647)) ++ norm Authorization always clause nothing
+
+-- schema 1 detaches with F before that minute plus the offset
 abbrev endOfTime : ℕ → List Schema
-endOfTime offset =
-    norm Commitment always always (leaf E (Plain 0) (Plus S 2147483647))
-    ++ norm Authorization always (leaf F (Plain 0) (Plus (violated 0) offset)) nothing
+endOfTime offset = atTheEnd (leaf F (Plain 0) (Plus (violated 0) offset))
 
 abbrev endRows : List Row → Shown
 endRows more =
@@ -250,6 +257,49 @@ leafCases =
     ∷ case (sharing 0x8001 0x8004 (event 0 0 (7 ∷ 8 ∷ []) ++ event 1 5 (1 ∷ 9 ∷ []))) (failsAt 10)
     ∷ []
 
+-- counts: E is kind 1, F kind 2, S kind 0
+abbrev countCases : List (Case Shown)
+countCases =
+    -- it is settled when the window ends, not when the count is passed; what is at the upper bound is outside, at the lower one inside
+    case (detaching (moreThan 1 1 (Plain 0) (Plain 10)) (eAt 1 ++ eAt 2)) (occursAt 10)
+    ∷ case (detaching (moreThan 1 1 (Plain 0) (Plain 10)) (eAt 1 ++ eAt 10)) (failsAt 10)
+    ∷ case (detaching (moreThan 0 1 (Plain 5) (Plain 10)) (eAt 5)) (occursAt 10)
+    ∷ case (detaching (moreThan 0 1 (Plain 5) (Plain 10)) (eAt 4)) (failsAt 10)
+    -- two are not more than two; two at one minute are two
+    ∷ case (detaching (moreThan 2 1 (Plain 0) (Plain 10)) (eAt 1 ++ eAt 2)) (failsAt 10)
+    ∷ case (detaching (moreThan 1 1 (Plain 0) (Plain 10)) (event 1 3 (7 ∷ 1 ∷ []) ++ event 1 3 (7 ∷ 2 ∷ []))) (occursAt 10)
+    -- any threshold will do
+    ∷ case (detaching (moreThan 4294967295 1 (Plain 0) (Plain 10)) (eAt 1)) (failsAt 10)
+    -- a bound that is unknown settles nothing, the lower one too
+    ∷ case (detaching (moreThan 0 1 (Plain 0) (Plus F 9)) []) doesNeither
+    ∷ case (detaching (moreThan 0 1 (Plain 0) (Plus F 9)) (eAt 5)) doesNeither
+    ∷ case (detaching (moreThan 0 1 (Plus F 0) (Plain 10)) []) doesNeither
+    ∷ case (detaching (moreThan 0 1 (Plus F 0) (Plain 10)) (eAt 5)) doesNeither
+    ∷ case (detaching (moreThan 0 1 (Plus F 0) (Plain 10)) (fAt 20)) (failsAt 20)
+    -- it is not settled before both bounds are known
+    ∷ case (detaching (moreThan 0 1 (Minus F 15) (Plain 10)) (eAt 6 ++ fAt 20)) (occursAt 20)
+    ∷ case (detaching (moreThan 0 1 (Plain 0) (Minus F 3)) (eAt 4 ++ fAt 20)) (occursAt 20)
+    ∷ case (detaching (moreThan 0 1 (Plain 0) (Minus F 3)) (fAt 20)) (failsAt 20)
+    -- an empty window
+    ∷ case (detaching (moreThan 0 1 (Plain 5) (Plain 5)) (eAt 5)) (failsAt 5)
+    -- records of another subject do not count; the subject counts itself
+    ∷ case (detaching (moreThan 0 1 (Plain 0) (Plain 10)) (event 1 5 (8 ∷ 5 ∷ []))) (failsAt 10)
+    ∷ case (reported (norm Authorization always (moreThan 0 0 (Plain 0) (Plain 9)) nothing) (sAt 3)) (rows (row Created 3 ∷ row Detached 9 ∷ []))
+    -- A6: a time past the last minute is none
+    ∷ case (reported (atTheEnd (moreThan 0 2 (Plain 0) (Plus (violated 0) 1))) (sAt 2147483647 ++ fAt 2147483647)) (endRows [])
+    ∷ case (reported (atTheEnd (moreThan 0 2 (Plain 0) (Plus (violated 0) 0))) (sAt 2147483647 ++ fAt 2147483647)) (endRows (rowOn 1 7 Detached 4294967294 ∷ []))
+    -- under a connective
+    ∷ case (detaching (except E10 (moreThan 0 2 (Plain 0) (Plain 20))) (eAt 5)) (occursAt 20)
+    ∷ case (detaching (except E10 (moreThan 0 2 (Plain 0) (Plain 20))) (eAt 5 ++ fAt 8)) (failsAt 20)
+    -- under a cited stage, and between two
+    ∷ case
+    (reported (norm Authorization always (moreThan 1 1 (Plain 0) (Plain 10)) nothing ++ norm Authorization always (leaf (detached 0) (Plain 0) (Plain 20)) nothing) (sAt 0 ++ eAt 1 ++ eAt 2))
+    (rows (row Created 0 ∷ row Detached 10 ∷ rowOn 1 7 Created 0 ∷ rowOn 1 7 Detached 10 ∷ []))
+    ∷ case
+    (reported (norm Authorization always E10 nothing ++ norm Authorization always (moreThan 0 1 (Plus (detached 0) 1) (Plus (detached 0) 9)) nothing) (sAt 0 ++ eAt 5 ++ eAt 6))
+    (rows (row Created 0 ∷ row Detached 5 ∷ rowOn 1 7 Created 0 ∷ rowOn 1 7 Detached 14 ∷ []))
+    ∷ []
+
 -- and, or, except: occurrence and failure
 abbrev connectiveCases : List (Case Shown)
 connectiveCases =
@@ -314,11 +364,11 @@ typeCases =
     ∷ []
 
 -- an authorization with E before 10 as schema 0, and schema 1, whose detach clause cites it
-abbrev citing : Expr Leaf → Log → Shown
+abbrev citing : Expr Atom → Log → Shown
 citing clause log = reported (norm Authorization always E10 nothing ++ norm Authorization always clause nothing) (sAt 0 ++ log)
 
 -- R is kind 2; P, kind 0, has many of Q, kind 1, which share attribute 1 with it. Schema 0 is on Q, schema 1 on P with that detach clause
-abbrev manyOf : Expr Leaf → Log → Shown
+abbrev manyOf : Expr Atom → Log → Shown
 manyOf clause log =
     reportedUnder
     (kind 0b10 1 ∷ kind 0b11 0 ∷ kind 0b11 0 ∷ [])
@@ -438,6 +488,10 @@ leafHold : Hold leafCases
 unfolding computes
 leafHold = refl
 
+countHold : Hold countCases
+unfolding computes
+countHold = refl
+
 connectiveHold : Hold connectiveCases
 unfolding computes
 connectiveHold = refl
@@ -460,8 +514,8 @@ recordHold = refl
 
 -- the parts of the second list that are about terms and records
 abbrev pub parts : List (List (Case Shown))
-parts = leafCases ∷ connectiveCases ∷ typeCases ∷ stageCases ∷ rowCases ∷ recordCases ∷ []
+parts = leafCases ∷ countCases ∷ connectiveCases ∷ typeCases ∷ stageCases ∷ rowCases ∷ recordCases ∷ []
 
 -- each gives what the document's words say; the parts are computed one by one, which is quicker than all at once
 pub readings : Hold (flatten parts)
-readings = hold-all parts (leafHold, (connectiveHold, (typeHold, (stageHold, (rowHold, (recordHold, tt))))))
+readings = hold-all parts (leafHold, (countHold, (connectiveHold, (typeHold, (stageHold, (rowHold, (recordHold, tt)))))))

@@ -5,7 +5,7 @@
 -- Two times are the same before m where `before m` makes them equal. Assumes nothing.
 use Prim.Native.Nat.{ℕ, zero, suc, _+_, _*_, _≤_}
 use native.Mathlib.Omega.{arith}
-use mathlib.Core.Path.{_≡_, refl, ap₂, sym, _∙_, fun-ext}
+use mathlib.Core.Path.{_≡_, refl, ap, ap₂, sym, _∙_, fun-ext}
 use mathlib.Core.Bool.{Bool, true, false, cond, _&&_}
 use mathlib.Core.List.{[], _∷_}
 use lib.Dec.{ltb, eqb}
@@ -18,14 +18,17 @@ use Rattle.meaning.specs.declared.Event.the-variants.{Kind, StageOf}
 use Rattle.meaning.specs.declared.Bound.{Bound}
 use Rattle.meaning.specs.declared.Bound.the-variants.{Plain, Plus, Minus, Open}
 use Rattle.meaning.specs.declared.Leaf.{Leaf}
+use Rattle.meaning.specs.declared.CountLeaf.{CountLeaf}
+use Rattle.meaning.specs.declared.Atom.{Atom}
+use Rattle.meaning.specs.declared.Atom.the-variants.{Happens, Counts}
 use Rattle.meaning.specs.declared.Edge.{Edge}
 use Rattle.meaning.specs.declared.Edge.the-variants.{Minute, Endless}
-use Rattle.meaning.specs.Time.{laterOf, earlierOf, before}
+use Rattle.meaning.specs.Time.{laterOf, earlierOf, before, onlyIf}
 use Rattle.meaning.specs.Terms.{Terms, Expr, leaf, and, or, except, always, kindOf, schemaAt, rank}
 use Rattle.meaning.specs.Log.{Record, Log, correlate}
-use Rattle.meaning.specs.Meaning.{StageTimes, cited, earliest, fromEdge, beforeEdge, reached, timeBy, happening, first, firstWithin, known, leafOccurrence, failureAt, leafFailure, timesOf, stageStep, timesWithin, stageTime}
+use Rattle.meaning.specs.Meaning.{StageTimes, cited, earliest, one, tally, fromEdge, beforeEdge, reached, timeBy, happening, first, firstWithin, known, leafOccurrence, failureAt, leafFailure, countWithin, countTime, timesOf, stageStep, timesWithin, stageTime}
 use Rattle.meaning.specs.Rows.{strike}
-use Rattle.meaning.proofs.TimeLaws.{Side, early, late, side, before-le, before-later, before-earlier, before-onceKnown, before-before, before-cut, before-never, before-ifNever, ifNever-never, onceKnown-never}
+use Rattle.meaning.proofs.TimeLaws.{Side, early, late, side, before-le, before-later, before-earlier, before-onceKnown, before-before, before-cut, before-never, before-ifNever, ifNever-never, before-onlyIf, onlyIf-never, onceKnown-never}
 use Rattle.meaning.proofs.EdgeLaws.{before-fromEdge, before-beforeEdge, never-within}
 use Rattle.meaning.proofs.RelatedTimes.{Kept, Related, and-related, or-related, except-related, stage-related}
 
@@ -76,10 +79,26 @@ unfolding earliest before
 earliest-early m f in-time [] = refl
 earliest-early m f in-time (r ∷ log) = simp (before-earlier, in-time, earliest-early m f in-time log)
 
+-- records that give no time may be left out of a tally
+tally-before : (m : ℕ) (f : Record → Time) → ((r : Record) → m ≤ r .stamp → f r ≡ Never) → (log : Log) → tally f log ≡ tally f (recordsBefore m log)
+unfolding tally strike one
+tally-before m f none [] = refl
+tally-before m f none (r ∷ log) = go (ltb (r .stamp) m) refl (tally-before m f none log)
+  where
+    go : (b : Bool) → ltb (r .stamp) m ≡ b → tally f log ≡ tally f (recordsBefore m log)
+        → one (f r) + tally f log ≡ tally f (cond b (r ∷ recordsBefore m log) (recordsBefore m log))
+    go true e ih = rw ih
+    go false e ih = rw (none r (ltb-false (r .stamp) m e)) (omega (arith, ih))
+
+-- what is before an edge that is not after m is before m
+within-early : (m : ℕ) (l : Edge) (u : ℕ) → u ≤ m → (t : Time) → before m (fromEdge l (beforeEdge (Minute u) t)) ≡ fromEdge l (beforeEdge (Minute u) t)
+unfolding beforeEdge
+within-early m l u h t = simp (before-fromEdge, before-before)
+
 within-before : (m : ℕ) (terms : Terms) (subject : Record) (times : StageTimes) (log : Log) (l : Edge) (u : ℕ) → u ≤ m → (e : Event)
     → before m (firstWithin times terms log subject l (Minute u) e) ≡ firstWithin times terms log subject l (Minute u) e
-unfolding firstWithin beforeEdge
-within-before m terms subject times log l u h e = earliest-early m _ (λ r. simp (before-fromEdge, before-before)) log
+unfolding firstWithin
+within-before m terms subject times log l u h e = earliest-early m _ (λ r. within-early m l u h (happening times terms subject e r)) log
 
 -- an edge is at most m, or what comes at it is not before m
 data EdgeSide (m : ℕ) : Edge → Type 0 where
@@ -160,10 +179,36 @@ module _ (m : ℕ) (terms : Terms) (subject : Record) (times times′ : StageTim
   unfolding leafFailure
   leafFailure-same x = simp (before-onceKnown, known-same, failureAt-same)
 
+  -- and the very same records of a kind
+  count-equal : (l : Edge) (u : ℕ) → u ≤ m → (k : ℕ) → countWithin times terms log subject l (Minute u) k ≡ countWithin times′ terms log′ subject l (Minute u) k
+  unfolding countWithin happening timeBy
+  count-equal l u h k = tally-before m f late-f log ∙ ap (tally f) alike ∙ sym (tally-before m f late-f log′)
+    where
+      f : Record → Time
+      f r = fromEdge l (beforeEdge (Minute u) (happening times terms subject (Kind k) r))
+
+      late-f : (r : Record) → m ≤ r .stamp → f r ≡ Never
+      late-f r p = sym (within-early m l u h (happening times terms subject (Kind k) r)) ∙ within-late times late-times l (Minute u) (Kind k) r p
+
+  -- what is settled at an edge is the same before m: by the same records, or since the edge is not before m
+  settled-same : (passes : ℕ → Bool) (l u : Edge) (k : ℕ)
+      → before m (onlyIf (passes (countWithin times terms log subject l u k)) (reached u)) ≡ before m (onlyIf (passes (countWithin times′ terms log′ subject l u k)) (reached u))
+  settled-same passes l u k = go (edgeSide m u)
+    where
+      go : {u : Edge} → EdgeSide m u
+          → before m (onlyIf (passes (countWithin times terms log subject l u k)) (reached u)) ≡ before m (onlyIf (passes (countWithin times′ terms log′ subject l u k)) (reached u))
+      go (near u h) = rw (count-equal l u h k)
+      go (far u h) = simp (before-onlyIf, h, onlyIf-never)
+
+  countTime-same : (passes : ℕ → Bool) (x : CountLeaf) → before m (countTime times terms log subject passes x) ≡ before m (countTime times′ terms log′ subject passes x)
+  unfolding countTime
+  countTime-same passes x = simp (before-onceKnown, known-same, settled-same passes)
+
   -- expressions
-  pub times-same : (x : Expr Leaf) → Related (Same m) (timesOf times terms log subject x) (timesOf times′ terms log′ subject x)
+  pub times-same : (x : Expr Atom) → Related (Same m) (timesOf times terms log subject x) (timesOf times′ terms log′ subject x)
   unfolding timesOf
-  times-same (leaf x) = (leafOccurrence-same x, leafFailure-same x)
+  times-same (leaf (Happens x)) = (leafOccurrence-same x, leafFailure-same x)
+  times-same (leaf (Counts x)) = (countTime-same _ x, countTime-same _ x)
   times-same (and a b) = and-related (Same m) (same-kept m) _ _ _ _ (times-same a) (times-same b)
   times-same (or a b) = or-related (Same m) (same-kept m) _ _ _ _ (times-same a) (times-same b)
   times-same (except a b) = except-related (Same m) (same-kept m) _ _ _ _ (times-same a) (times-same b)
@@ -211,7 +256,7 @@ module _ (m : ℕ) (terms : Terms) (log log′ : Log) (alike : recordsBefore m l
       (ap₂ laterOf refl
       (stage-related (Same m) (same-kept m) _ _ _ _ _ _ (clause (timesWithin-same n) (3 * j) _) (clause (timesWithin-same n) (3 * j + 1) _) (clause (timesWithin-same n) (3 * j + 2) _) s (schemaAt terms j .type)))
     where
-      clause : ((s : Stage) (j : ℕ) (r : Record) → before m (timesWithin terms log n s j r) ≡ before m (timesWithin terms log′ n s j r)) → (k : ℕ) (x : Expr Leaf)
+      clause : ((s : Stage) (j : ℕ) (r : Record) → before m (timesWithin terms log n s j r) ≡ before m (timesWithin terms log′ n s j r)) → (k : ℕ) (x : Expr Atom)
           → Related (Same m) (timesOf (cited k (timesWithin terms log n)) terms log r x) (timesOf (cited k (timesWithin terms log′ n)) terms log′ r x)
       clause same k =
           times-same m terms r (cited k (timesWithin terms log n)) (cited k (timesWithin terms log′ n)) log log′

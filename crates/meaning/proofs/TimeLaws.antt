@@ -9,7 +9,7 @@ use lib.Dec.{leb, ltb}
 use borrow.Author.Tests.{ltb-true, ltb-false, lt-ltb, le-ltb}
 use Rattle.meaning.specs.declared.Time.{Time}
 use Rattle.meaning.specs.declared.Time.the-variants.{At, Never}
-use Rattle.meaning.specs.Time.{laterOf, earlierOf, before, from, onceKnown, ifNever, cut, lastMinute}
+use Rattle.meaning.specs.Time.{laterOf, earlierOf, before, from, onceKnown, ifNever, onlyIf, cut, lastMinute}
 
 -- a minute before m stays
 pub before-lt : (m n : ℕ) → n < m → before m (At n) ≡ At n
@@ -136,6 +136,17 @@ pub ifNever-never : (t : Time) → ifNever t Never Never ≡ Never
 unfolding ifNever
 ifNever-never Never = refl
 ifNever-never (At n) = refl
+
+-- a moment and a test
+pub before-onlyIf : (m : ℕ) (b : Bool) (t : Time) → before m (onlyIf b t) ≡ onlyIf b (before m t)
+unfolding onlyIf before
+before-onlyIf m true t = refl
+before-onlyIf m false t = refl
+
+pub onlyIf-never : (b : Bool) → onlyIf b Never ≡ Never
+unfolding onlyIf
+onlyIf-never true = refl
+onlyIf-never false = refl
 
 -- nothing comes of waiting for none
 pub onceKnown-never : (t : Time) → onceKnown t (λ g. Never) ≡ Never

@@ -1,9 +1,9 @@
 -- When things happen, for one subject: events, bounds, leaves, expressions and the five stages.
 -- Document 01, 'When things happen', and 'Citation' of 'Terms and log'. Assumes nothing: these are definitions.
 use Prim.Native.Nat.{ℕ, zero, suc, _+_, _-_, _*_}
-use mathlib.Core.Bool.{true, false, _&&_}
+use mathlib.Core.Bool.{Bool, true, false, _&&_}
 use mathlib.Core.List.{[], _∷_}
-use lib.Dec.{eqb, ltb}
+use lib.Dec.{eqb, leb, ltb}
 use Rattle.meaning.specs.declared.Time.{Time}
 use Rattle.meaning.specs.declared.Time.the-variants.{At, Never}
 use Rattle.meaning.specs.declared.Stage.{Stage}
@@ -15,10 +15,13 @@ use Rattle.meaning.specs.declared.Event.the-variants.{Kind, StageOf}
 use Rattle.meaning.specs.declared.Bound.{Bound}
 use Rattle.meaning.specs.declared.Bound.the-variants.{Plain, Plus, Minus, Open}
 use Rattle.meaning.specs.declared.Leaf.{Leaf}
+use Rattle.meaning.specs.declared.CountLeaf.{CountLeaf}
+use Rattle.meaning.specs.declared.Atom.{Atom}
+use Rattle.meaning.specs.declared.Atom.the-variants.{Happens, Counts}
 use Rattle.meaning.specs.declared.Edge.{Edge}
 use Rattle.meaning.specs.declared.Edge.the-variants.{Minute, Endless}
 use Rattle.meaning.specs.declared.Times.{Times}
-use Rattle.meaning.specs.Time.{laterOf, earlierOf, before, from, onceKnown, ifNever, cut}
+use Rattle.meaning.specs.Time.{laterOf, earlierOf, before, from, onceKnown, ifNever, onlyIf, cut}
 use Rattle.meaning.specs.Terms.{Terms, Expr, leaf, and, or, except, always, kindOf, schemaAt, rank}
 use Rattle.meaning.specs.Log.{Record, Log, correlate}
 
@@ -34,6 +37,16 @@ cited k times s j subject = elim (ltb (rank s j) k) [ true ↦ times s j subject
 unfoldable pub earliest : (Record → Time) → Log → Time
 earliest f [] = Never
 earliest f (r ∷ log) = earlierOf (f r) (earliest f log)
+
+-- 1 for a time, 0 for none
+unfoldable pub one : Time → ℕ
+one (At n) = 1
+one Never = 0
+
+-- how many of a log's records give a time (count)
+unfoldable pub tally : (Record → Time) → Log → ℕ
+tally f [] = 0
+tally f (r ∷ log) = one (f r) + tally f log
 
 -- what is at the lower edge or later (leaf occurs)
 unfoldable pub fromEdge : Edge → Time → Time
@@ -112,9 +125,21 @@ module _ (times : StageTimes) (terms : Terms) (log : Log) (subject : Record) whe
   unfoldable pub leafFailure : Leaf → Time
   leafFailure x = onceKnown (known (x .upper)) λ h. failureAt (x .lower) (edgeOf (x .upper) h) (x .event)
 
-  -- the times of an expression (expressions)
-  unfoldable pub timesOf : Expr Leaf → Times
-  timesOf (leaf x) = record { occurs = leafOccurrence x; fails = leafFailure x }
+  -- how many records of a kind lie in a window; a stage is never counted (count)
+  unfoldable pub countWithin : Edge → Edge → ℕ → ℕ
+  countWithin l u k = tally (λ r. fromEdge l (beforeEdge u (happening times terms subject (Kind k) r))) log
+
+  -- a count is settled when its window has ended and both bounds are known; none, where the number of records does not pass a test (count)
+  unfoldable pub countTime : (ℕ → Bool) → CountLeaf → Time
+  countTime passes x =
+      onceKnown (known (x .lower)) λ g.
+      onceKnown (known (x .upper)) λ h.
+      onlyIf (passes (countWithin (edgeOf (x .lower) g) (edgeOf (x .upper) h) (x .kind))) (reached (edgeOf (x .upper) h))
+
+  -- the times of an expression; a count occurs with more records than its threshold, and fails with as many or fewer (expressions, count)
+  unfoldable pub timesOf : Expr Atom → Times
+  timesOf (leaf (Happens x)) = record { occurs = leafOccurrence x; fails = leafFailure x }
+  timesOf (leaf (Counts x)) = record { occurs = countTime (λ n. ltb (x .threshold) n) x; fails = countTime (λ n. leb n (x .threshold)) x }
   timesOf (and a b) = andOf (timesOf a) (timesOf b)
   timesOf (or a b) = orOf (timesOf a) (timesOf b)
   timesOf (except a b) = exceptOf (timesOf a) (timesOf b)
@@ -138,7 +163,7 @@ stageFrom Violated Power c r u = Never
 unfoldable pub stageStep : StageTimes → Terms → Log → StageTimes
 stageStep times terms log s j subject =
     let schema = schemaAt terms j in
-    let clause : ℕ → Expr Leaf → Times = λ k x. timesOf (cited k times) terms log subject x in
+    let clause : ℕ → Expr Atom → Times = λ k x. timesOf (cited k times) terms log subject x in
     laterOf (At (subject .stamp))
     (stageFrom s (schema .type) (clause (3 * j) (schema .create)) (clause (3 * j + 1) (schema .detach)) (clause (3 * j + 2) (schema .consequent)))
 

@@ -11,7 +11,8 @@ use Rattle.meaning.specs.declared.Event.{Event}
 use Rattle.meaning.specs.declared.Event.the-variants.{Kind, StageOf}
 use Rattle.meaning.specs.declared.Bound.{Bound}
 use Rattle.meaning.specs.declared.Bound.the-variants.{Plain, Plus, Minus, Open}
-use Rattle.meaning.specs.declared.Leaf.{Leaf}
+use Rattle.meaning.specs.declared.Atom.{Atom}
+use Rattle.meaning.specs.declared.Atom.the-variants.{Happens, Counts}
 
 -- an event kind (item 01)
 pub record EventKind : Type 0 where
@@ -20,7 +21,7 @@ pub record EventKind : Type 0 where
   -- the key attribute
   pub key : ℕ
 
--- an expression over leaves of type A (items 03 to 07)
+-- an expression over leaves of type A (items 03 to 08)
 pub data Expr (A : Type 0) : Type 0 where
   leaf : A → Expr A
   and or except : Expr A → Expr A → Expr A
@@ -37,11 +38,11 @@ pub record Schema : Type 0 where
   -- the attribute of the liable party
   pub liable : ℕ
   -- the clause c
-  pub create : Expr Leaf
+  pub create : Expr Atom
   -- the clause r
-  pub detach : Expr Leaf
+  pub detach : Expr Atom
   -- the clause u
-  pub consequent : Expr Leaf
+  pub consequent : Expr Atom
 
 -- terms (Grammar): kinds and schemas, each identified by its place
 pub record Terms : Type 0 where
@@ -79,7 +80,7 @@ rank Expired j = 3 * j + 1
 rank Discharged j = 3 * j + 2
 rank Violated j = 3 * j + 2
 
--- the leaves of an expression, from left to right (item 03)
+-- the leaves of an expression, from left to right (items 03 and 08)
 unfoldable pub leaves : {A : Type 0} → Expr A → List A
 leaves (leaf x) = x ∷ []
 leaves (and a b) = leaves a ++ leaves b
@@ -87,7 +88,7 @@ leaves (or a b) = leaves a ++ leaves b
 leaves (except a b) = leaves a ++ leaves b
 leaves always = []
 
--- the event of a bound, if it has one (item 03)
+-- the event of a bound, if it has one (items 03 and 08)
 unfoldable pub boundEvents : Bound → List Event
 boundEvents (Plain n) = []
 boundEvents (Plus e n) = e ∷ []
@@ -95,5 +96,6 @@ boundEvents (Minus e n) = e ∷ []
 boundEvents Open = []
 
 -- the events to which a leaf refers, those of its bounds included (Citation; table, 5)
-unfoldable pub leafEvents : Leaf → List Event
-leafEvents x = x .event ∷ (boundEvents (x .lower) ++ boundEvents (x .upper))
+unfoldable pub leafEvents : Atom → List Event
+leafEvents (Happens x) = x .event ∷ (boundEvents (x .lower) ++ boundEvents (x .upper))
+leafEvents (Counts x) = Kind (x .kind) ∷ (boundEvents (x .lower) ++ boundEvents (x .upper))

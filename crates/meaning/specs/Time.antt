@@ -1,7 +1,7 @@
 -- Times: a minute, or none. `Time` is the enum of the code; its minute is any natural number here.
 -- Document 01, 'When things happen'. Assumes nothing: these are definitions.
 use Prim.Native.Nat.{ℕ, min, max}
-use mathlib.Core.Bool.{cond}
+use mathlib.Core.Bool.{Bool, true, false, cond}
 use lib.Dec.{leb, ltb}
 use Rattle.meaning.specs.declared.Time.{Time}
 use Rattle.meaning.specs.declared.Time.the-variants.{At, Never}
@@ -37,6 +37,11 @@ onceKnown Never f = Never
 unfoldable pub ifNever : Time → Time → Time → Time
 ifNever Never a b = a
 ifNever (At n) a b = b
+
+-- a time where a test holds, else none (count)
+unfoldable pub onlyIf : Bool → Time → Time
+onlyIf true t = t
+onlyIf false t = Never
 
 -- the last minute that a time can have (limit)
 unfoldable pub lastMinute : ℕ

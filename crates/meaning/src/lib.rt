@@ -120,6 +120,20 @@ pub struct Leaf {
     pub upper: Bound,
 }
 
+// More than so many records of a kind, from the lower bound up to the upper one.
+pub struct CountLeaf {
+    pub kind: u8,
+    pub threshold: u32,
+    pub lower: Bound,
+    pub upper: Bound,
+}
+
+// A leaf of an expression: an event that happens in a window, or records that are counted in one.
+pub enum Atom {
+    Happens(Leaf),
+    Counts(CountLeaf),
+}
+
 // A bound's value: a minute, past the last one too, or no end.
 pub enum Edge {
     Minute(u64),
