@@ -1,8 +1,9 @@
 -- The expression at a place of the terms, and what the expression that items stand for has of theirs.
---     leaves-from, any-event          its leaves, and a test of its events, by the bodies of its items
+--     leaves-from, any-event          its leaves, and a test of its events, leaf by leaf of its items
 --     expr-deep, expr-depth           depth as much as items is enough
 --     Joining, and-joins, …, joins    the connectives, in items and in meaning
---     read-leaf, read-always, read-join, read-none   what is read at a place, by the byte there
+--     LeafItem, leaf-item, count-item   the two kinds of leaf, how each is read
+--     read-leaf, read-cut, read-always, read-join, read-none   what is read at a place, by the byte there
 --     read-inside, leaf-is, always-is, join-is     the way back: what was read there, by the byte
 --     expr-some, expr-none, expr-clause   what stands at a place, by what is read there
 --     expr-leaf, expr-always, expr-join   the same by the byte there and, of a connective, by what was read behind it
@@ -17,28 +18,28 @@ use lib.Dec.{eqb, ltb}
 use lib.ListN.{length, take, drop, length-append, length-drop}
 use borrow.Author.Tests.{le-leb, ltb-true, ltb-false, eqb-true, eqb-false}
 use Rattle.meaning.specs.declared.Event.{Event}
-use Rattle.meaning.specs.declared.Leaf.{Leaf}
+use Rattle.meaning.specs.declared.Atom.{Atom}
 use Rattle.meaning.specs.Lists.{anyOf}
 use Rattle.meaning.specs.Terms.{Expr, leaf, and, or, except, always, leaves, leafEvents}
 use Rattle.format.specs.Bytes.{orElse, byteAt, item}
-use Rattle.format.specs.Grammar.{size, readBoth, readExpr, exprLimit, readClause, exprBytes}
+use Rattle.format.specs.Grammar.{size, readBoth, readLeaf, readExpr, exprLimit, readClause, exprBytes, WholeLeaf}
 use Rattle.format.specs.Fields.{neither, leafFrom, exprFrom, exprAt, anyEvent}
 use Rattle.meaning.proofs.ListLaws.{all-append, any-map}
 use Rattle.format.proofs.ReaderLaws.{none-some, found-eq, bind-cases}
-use Rattle.format.proofs.GrammarLaws.{size-positive, expr-long, E, Sixteen, Connective, and-is, or-is, except-is, expr-read, expr-whole}
-use Rattle.format.proofs.PlaceLaws.{drop-here, item-here, item-other, item-short}
+use Rattle.format.proofs.GrammarLaws.{size-positive, expr-long, E, Connective, and-is, or-is, except-is, expr-read, expr-whole}
+use Rattle.format.proofs.PlaceLaws.{drop-here, byte-inside, item-here, item-other, item-short}
 
 -- the leaves of what items stand for are what the leaves stand for
 pub leaves-from : (x : E) → leaves (exprFrom x) ≡ map leafFrom (leaves x)
 unfolding leaves exprFrom
-leaves-from (leaf body) = refl
+leaves-from (leaf item) = refl
 leaves-from (and a b) = rw (leaves-from a, leaves-from b, map-append)
 leaves-from (or a b) = rw (leaves-from a, leaves-from b, map-append)
 leaves-from (except a b) = rw (leaves-from a, leaves-from b, map-append)
 leaves-from always = refl
 
--- a test of the events is made body by body
-pub any-event : (p : Event → Bool) (x : E) → anyEvent p (exprFrom x) ≡ anyOf (λ body. anyOf p (leafEvents (leafFrom body))) (leaves x)
+-- a test of the events is made leaf by leaf
+pub any-event : (p : Event → Bool) (x : E) → anyEvent p (exprFrom x) ≡ anyOf (λ item. anyOf p (leafEvents (leafFrom item))) (leaves x)
 unfolding anyEvent
 any-event p x = ap (anyOf (λ l. anyOf p (leafEvents l))) (leaves-from x) ∙ any-map (λ l. anyOf p (leafEvents l)) leafFrom (leaves x)
 
@@ -63,7 +64,7 @@ or-none none = refl
 or-none (some a) = refl
 
 -- a connective of items, how it is read, and the one of what they stand for
-pub record Joining (kind : ℕ) (join : E → E → E) (joined : Expr Leaf → Expr Leaf → Expr Leaf) : Type 0 where
+pub record Joining (kind : ℕ) (join : E → E → E) (joined : Expr Atom → Expr Atom → Expr Atom) : Type 0 where
   -- in bytes, items and leaves
   pub is : Connective kind join
   -- behind its byte stand its operands
@@ -73,17 +74,17 @@ pub record Joining (kind : ℕ) (join : E → E → E) (joined : Expr Leaf → E
 
 -- item 04
 pub and-joins : Joining 4 and and
-unfolding exprFrom readExpr item bind
+unfolding exprFrom readLeaf readExpr item bind
 and-joins = record { is = and-is; reads = λ n items u. rw (le-leb 0 (length u) (omega arith)) (or-none _); from = λ a b. refl }
 
 -- item 05
 pub or-joins : Joining 5 or or
-unfolding exprFrom readExpr item bind
+unfolding exprFrom readLeaf readExpr item bind
 or-joins = record { is = or-is; reads = λ n items u. rw (le-leb 0 (length u) (omega arith)) (or-none _); from = λ a b. refl }
 
 -- item 06
 pub except-joins : Joining 6 except except
-unfolding exprFrom readExpr item bind
+unfolding exprFrom readLeaf readExpr item bind
 except-joins = record { is = except-is; reads = λ n items u. rw (le-leb 0 (length u) (omega arith)) (or-none _); from = λ a b. refl }
 
 -- the connective of a byte
@@ -91,7 +92,7 @@ pub record Joins (b : ℕ) : Type 0 where
   -- of items
   pub join : E → E → E
   -- of what they stand for
-  pub joined : Expr Leaf → Expr Leaf → Expr Leaf
+  pub joined : Expr Atom → Expr Atom → Expr Atom
   -- it is one
   pub is : Joining b join joined
 
@@ -106,13 +107,47 @@ joins b low high = go (eqb b 4) (eqb b 5) refl refl
         let six : b ≡ 6 = omega (arith, eqb-false b 4 e, eqb-false b 5 f) in
         rw six (record { join = except; joined = except; is = except-joins })
 
+-- a kind of leaf: its item byte, its body's length, and how it is read
+pub record LeafItem (kind n : ℕ) : Type 0 where
+  -- nothing else is read at its byte
+  pub reads : (m items : ℕ) (u : List ℕ) → readExpr (suc m) (suc items) (kind ∷ u) ≡ readLeaf kind n (kind ∷ u)
+  -- it is not the byte that stands past the end
+  pub some-byte : 0 < kind
+
+-- item 03
+pub leaf-item : LeafItem 3 16
+unfolding readLeaf readExpr item bind
+leaf-item = record { reads = λ m items u. or-none _; some-byte = omega arith }
+
+-- item 08
+pub count-item : LeafItem 8 19
+unfolding readLeaf readExpr item bind
+count-item = record { reads = λ m items u. refl; some-byte = omega arith }
+
+module _ {kind n : ℕ} (is : LeafItem kind n) (m items : ℕ) (s : List ℕ) (at : ℕ) (here : byteAt s at ≡ kind) where
+  -- what is read at its byte
+  reads-leaf : readExpr (suc m) (suc items) (drop at s) ≡ readLeaf kind n (drop at s)
+  reads-leaf =
+      let front : drop at s ≡ kind ∷ drop (at + 1) s = drop-here s at (byte-inside s at (omega (arith, is .some-byte))) ∙ ap (λ (b : ℕ). b ∷ drop (at + 1) s) here in
+      rw front (is .reads m items (drop (at + 1) s))
+
 -- a leaf at a place
-pub read-leaf : (n items : ℕ) (s : List ℕ) (at : ℕ) → 0 < n → 0 < items → byteAt s at ≡ 3 → at + 17 ≤ length s
-    → readExpr n items (drop at s) ≡ some (leaf (take 16 (drop (at + 1) s)), drop (at + 17) s)
-unfolding readExpr bind
-read-leaf zero items s at g h e l = absurd (omega arith)
-read-leaf (suc n) zero s at g h e l = absurd (omega arith)
-read-leaf (suc n) (suc items) s at g h e l = let end : at + 1 + 16 ≡ at + 17 = omega arith in rw (item-here 3 16 s at e (omega arith), end)
+pub read-leaf : {kind n : ℕ} → LeafItem kind n → (m items : ℕ) (s : List ℕ) (at : ℕ) → 0 < m → 0 < items → byteAt s at ≡ kind → at + suc n ≤ length s
+    → readExpr m items (drop at s) ≡ some (leaf (take (suc n) (drop at s)), drop (at + suc n) s)
+unfolding readLeaf bind
+read-leaf is zero items s at g h e l = absurd (omega arith)
+read-leaf is (suc m) zero s at g h e l = absurd (omega arith)
+read-leaf {kind} {n} is (suc m) (suc items) s at g h e l =
+    let end : at + 1 + n ≡ at + suc n = omega arith in
+    let whole : take (suc n) (drop at s) ≡ kind ∷ take n (drop (at + 1) s) = rw (drop-here s at (omega arith), e) in
+    rw (reads-leaf is m items s at e, item-here kind n s at e (omega arith), end, whole)
+
+-- a leaf that is cut off is not read
+pub read-cut : {kind n : ℕ} → LeafItem kind n → (m items : ℕ) (s : List ℕ) (at : ℕ) → byteAt s at ≡ kind → item kind n (drop at s) ≡ none → readExpr m items (drop at s) ≡ none
+unfolding readLeaf readExpr bind
+read-cut is zero items s at e l = refl
+read-cut is (suc m) zero s at e l = refl
+read-cut {kind} {n} is (suc m) (suc items) s at e l = rw (reads-leaf is m items s at e, l)
 
 -- always at a place
 pub read-always : (n items : ℕ) (s : List ℕ) (at : ℕ) → 0 < n → 0 < items → byteAt s at ≡ 7 → at < length s
@@ -121,7 +156,9 @@ read-always n items s at g h e l = rw (drop-here s at l, e) (unfold exprBytes si
 
 -- what is read stands before the end
 pub read-inside : (n items : ℕ) (s : List ℕ) (at : ℕ) (x : E) (t : List ℕ) → readExpr n items (drop at s) ≡ some (x, t) → at < length s
-read-inside n items s at x t e = omega (arith, ap length (expr-read n items (drop at s) x t e .0), length-append (exprBytes x) t, length-drop at s, expr-long x)
+read-inside n items s at x t e =
+    let found = expr-read n items (drop at s) x t e in
+    omega (arith, ap length (found .0), length-append (exprBytes x) t, length-drop at s, expr-long x (found .2))
 
 -- a connective at a place, by what was read behind its byte
 pub read-join : {kind : ℕ} {join : E → E → E} → Connective kind join
@@ -133,20 +170,21 @@ read-join {kind} {join} is n m k s at items a b u t h e p q =
     let front : drop at s ≡ exprBytes (join a b) ++ t =
     rw (is .bytes, append-assoc) (cc (drop-here s at (omega (arith, read-inside n (items - 1) s (at + 1) a u p)), e, left .0, right .0)) in
     let count : size (join a b) ≤ items = omega (arith, is .items a b, left .1, right .1, size-positive a, size-positive b) in
-    rw front (expr-whole k items (join a b) t (omega arith) count (rw (is .bodies) (all-append Sixteen (leaves a) (leaves b) (left .2) (right .2))))
+    rw front (expr-whole k items (join a b) t (omega arith) count (rw (is .bodies) (all-append WholeLeaf (leaves a) (leaves b) (left .2) (right .2))))
 
 -- nothing is read where no item of an expression stands
-pub read-none : (n items : ℕ) (s : List ℕ) (at : ℕ) → item 3 16 (drop at s) ≡ none → (4 ≤ byteAt s at → byteAt s at ≤ 7 → ⊥) → readExpr n items (drop at s) ≡ none
-unfolding readExpr bind
-read-none zero items s at e out = refl
-read-none (suc n) zero s at e out = refl
-read-none (suc n) (suc items) s at e out =
+pub read-none : (n items : ℕ) (s : List ℕ) (at : ℕ) → (3 ≤ byteAt s at → byteAt s at ≤ 8 → ⊥) → readExpr n items (drop at s) ≡ none
+unfolding readLeaf readExpr bind
+read-none zero items s at out = refl
+read-none (suc n) zero s at out = refl
+read-none (suc n) (suc items) s at out =
     simp (
-      e,
+      item-other 3 16 s at (λ b. out (omega arith) (omega arith)),
       item-other 4 0 s at (λ b. out (omega arith) (omega arith)),
       item-other 5 0 s at (λ b. out (omega arith) (omega arith)),
       item-other 6 0 s at (λ b. out (omega arith) (omega arith)),
       item-other 7 0 s at (λ b. out (omega arith) (omega arith)),
+      item-other 8 19 s at (λ b. out (omega arith) (omega arith)),
     )
 
 -- what was read at a connective's byte: its operands, one behind the other
@@ -173,22 +211,22 @@ some-left (suc n) (suc items) s x t e = (omega arith, omega arith)
 
 module _ (n items : ℕ) (s : List ℕ) (at : ℕ) (x : E) (t : List ℕ) (found : readExpr n items (drop at s) ≡ some (x, t)) where
   -- at a leaf's byte a leaf was read
-  pub leaf-is : byteAt s at ≡ 3 → (x ≡ leaf (take 16 (drop (at + 1) s))) × (t ≡ drop (at + 17) s) × (at + 17 ≤ length s)
-  leaf-is e = go (ltb (length s) (at + 17)) refl
+  pub leaf-is : {kind size : ℕ} → LeafItem kind size → byteAt s at ≡ kind → (x ≡ leaf (take (suc size) (drop at s))) × (t ≡ drop (at + suc size) s) × (at + suc size ≤ length s)
+  leaf-is {kind} {size} is e = go (ltb (length s) (at + suc size)) refl
     where
-      go : (b : Bool) → ltb (length s) (at + 17) ≡ b → (x ≡ leaf (take 16 (drop (at + 1) s))) × (t ≡ drop (at + 17) s) × (at + 17 ≤ length s)
+      go : (b : Bool) → ltb (length s) (at + suc size) ≡ b → (x ≡ leaf (take (suc size) (drop at s))) × (t ≡ drop (at + suc size) s) × (at + suc size ≤ length s)
       go true l =
-          let short = item-short 3 16 s at (omega (arith, ltb-true (length s) (at + 17) l)) in
-          none-some (sym (read-none n items s at short (λ low high. omega arith)) ∙ found)
+          let short = item-short kind size s at (omega (arith, ltb-true (length s) (at + suc size) l)) in
+          none-some (sym (read-cut is n items s at e short) ∙ found)
       go false l =
-          let inside = ltb-false (length s) (at + 17) l in
+          let inside = ltb-false (length s) (at + suc size) l in
           let more = some-left n items (drop at s) x t found in
-          let same = found-eq (sym found ∙ read-leaf n items s at (more .0) (more .1) e inside) in
+          let same = found-eq (sym found ∙ read-leaf is n items s at (more .0) (more .1) e inside) in
           (same .0, same .1, inside)
 
   -- where no leaf and no connective stands, always was read
-  pub always-is : (3 ≤ byteAt s at → byteAt s at ≤ 6 → ⊥) → (x ≡ always) × (t ≡ drop (at + 1) s)
-  always-is out = go (eqb (byteAt s at) 7) refl
+  pub always-is : (3 ≤ byteAt s at → byteAt s at ≤ 6 → ⊥) → (byteAt s at ≡ 8 → ⊥) → (x ≡ always) × (t ≡ drop (at + 1) s)
+  always-is out no-count = go (eqb (byteAt s at) 7) refl
     where
       go : (b : Bool) → eqb (byteAt s at) 7 ≡ b → (x ≡ always) × (t ≡ drop (at + 1) s)
       go true e =
@@ -196,11 +234,10 @@ module _ (n items : ℕ) (s : List ℕ) (at : ℕ) (x : E) (t : List ℕ) (found
           found-eq (sym found ∙ read-always n items s at (more .0) (more .1) (eqb-true _ 7 e) (read-inside n items s at x t found))
       go false e =
           let other = eqb-false (byteAt s at) 7 e in
-          let no-leaf = item-other 3 16 s at (λ b. out (omega arith) (omega arith)) in
-          none-some (sym (read-none n items s at no-leaf (λ low high. out (omega arith) (omega arith))) ∙ found)
+          none-some (sym (read-none n items s at (λ low high. out low (omega (arith, other, no-count)))) ∙ found)
 
 -- at a connective's byte it and its operands were read
-pub join-is : {kind : ℕ} {join : E → E → E} {joined : Expr Leaf → Expr Leaf → Expr Leaf} → Joining kind join joined
+pub join-is : {kind : ℕ} {join : E → E → E} {joined : Expr Atom → Expr Atom → Expr Atom} → Joining kind join joined
     → (n items : ℕ) (s : List ℕ) (at : ℕ) (x : E) (t : List ℕ) → byteAt s at ≡ kind → readExpr n items (drop at s) ≡ some (x, t) → Parts join items s at x t
 unfolding readBoth
 join-is is zero items s at x t k e = absurd (omega (arith, some-left zero items (drop at s) x t e))
@@ -235,9 +272,10 @@ unfolding readClause
 expr-clause s at x t e = expr-some exprLimit s at exprLimit x t e
 
 -- a leaf
-pub expr-leaf : (s : List ℕ) (at items : ℕ) → 0 < items → byteAt s at ≡ 3 → at + 17 ≤ length s → exprAt s at items ≡ leaf (leafFrom (take 16 (drop (at + 1) s)))
+pub expr-leaf : {kind n : ℕ} → LeafItem kind n → (s : List ℕ) (at items : ℕ) → 0 < items → byteAt s at ≡ kind → at + suc n ≤ length s
+    → exprAt s at items ≡ leaf (leafFrom (take (suc n) (drop at s)))
 unfolding exprFrom
-expr-leaf s at items h e l = expr-some items s at items _ _ (read-leaf items items s at h h e l)
+expr-leaf is s at items h e l = expr-some items s at items _ _ (read-leaf is items items s at h h e l)
 
 -- always
 pub expr-always : (s : List ℕ) (at items : ℕ) → 0 < items → byteAt s at ≡ 7 → at < length s → exprAt s at items ≡ always
@@ -245,7 +283,7 @@ unfolding exprFrom
 expr-always s at items h e l = expr-some items s at items _ _ (read-always items items s at h h e l)
 
 -- the same of what stands there
-pub expr-join : {kind : ℕ} {join : E → E → E} {joined : Expr Leaf → Expr Leaf → Expr Leaf} → Joining kind join joined
+pub expr-join : {kind : ℕ} {join : E → E → E} {joined : Expr Atom → Expr Atom → Expr Atom} → Joining kind join joined
     → (n m : ℕ) (s : List ℕ) (at items : ℕ) (a b : E) (u t : List ℕ) → byteAt s at ≡ kind
     → readExpr n (items - 1) (drop (at + 1) s) ≡ some (a, u) → readExpr m (items - 1 - size a) u ≡ some (b, t)
     → exprAt s at items ≡ joined (exprFrom a) (exprFrom b)

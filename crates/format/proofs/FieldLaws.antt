@@ -5,10 +5,10 @@ use native.Mathlib.Nat.{add-zero}
 use native.Mathlib.Omega.{arith}
 use mathlib.Core.Path.{_≡_, refl, ap, sym, _∙_}
 use mathlib.Core.Bool.{Bool, true, false, cond, _||_, true≢false}
-use mathlib.Core.List.{List, [], _∷_, _++_, append-nil}
+use mathlib.Core.List.{List, [], _∷_, _++_, append-nil, append-assoc}
 use mathlib.Core.Option.{Option, none, some, bind}
 use lib.Dec.{eqb, leb, ltb}
-use lib.ListN.{length}
+use lib.ListN.{length, length-append}
 use lib.Seq.{getD-append-add, drop-append-add, take-at}
 use borrow.Author.Tests.{ltb-false, lt-ltb, ne-eqb}
 use Rattle.meaning.specs.declared.Stage.the-variants.{Created, Detached, Expired, Discharged, Violated}
@@ -16,7 +16,8 @@ use Rattle.meaning.specs.declared.Event.{Event}
 use Rattle.meaning.specs.declared.Event.the-variants.{Kind, StageOf}
 use Rattle.meaning.specs.declared.Bound.{Bound}
 use Rattle.meaning.specs.declared.Bound.the-variants.{Plain, Plus, Minus, Open}
-use Rattle.meaning.specs.declared.Leaf.{Leaf}
+use Rattle.meaning.specs.declared.Atom.{Atom}
+use Rattle.meaning.specs.declared.Atom.the-variants.{Happens, Counts}
 use Rattle.meaning.specs.declared.Time.the-variants.{Never}
 use Rattle.meaning.specs.declared.Times.{Times}
 use Rattle.meaning.specs.Stages.{stageNumber}
@@ -24,7 +25,7 @@ use Rattle.meaning.specs.Terms.{Terms, leaf}
 use Rattle.meaning.specs.Log.{Record, Log}
 use Rattle.meaning.specs.Meaning.{StageTimes, reached, edgeOf, known, leafOccurrence, failureAt, leafFailure, timesOf}
 use Rattle.format.specs.Bytes.{bytesOf, byteAt, numberAt}
-use Rattle.format.specs.Fields.{stageEvent, eventOf, boundOf, leafOf, neither, notZero, offsetLimit, eventWrong, boundWrong, leafWrong}
+use Rattle.format.specs.Fields.{stageEvent, eventOf, boundOf, happeningOf, countOf, leafOf, neither, notZero, offsetLimit, eventWrong, boundWrong, happeningWrong, countWrong, leafWrong}
 use Rattle.meaning.proofs.BoolLaws.{or-false}
 use Rattle.meaning.proofs.TimeLaws.{ifNever-never, onceKnown-never}
 use Rattle.meaning.proofs.EdgeLaws.{none-within}
@@ -48,8 +49,9 @@ boundBytes (Minus e n) = 2 ∷ formOf e ∷ eventNumber e ∷ bytesOf 4 n
 boundBytes Open = 3 ∷ 0 ∷ 0 ∷ bytesOf 4 0
 
 -- a leaf in bytes
-unfoldable pub leafBytes : Leaf → List ℕ
-leafBytes x = formOf (x .event) ∷ eventNumber (x .event) ∷ (boundBytes (x .lower) ++ boundBytes (x .upper))
+unfoldable pub leafBytes : Atom → List ℕ
+leafBytes (Happens x) = 3 ∷ formOf (x .event) ∷ eventNumber (x .event) ∷ (boundBytes (x .lower) ++ boundBytes (x .upper))
+leafBytes (Counts x) = 8 ∷ x .kind ∷ (bytesOf 4 (x .threshold) ++ (boundBytes (x .lower) ++ boundBytes (x .upper)))
 
 -- a bound's offset fits its four bytes
 abbrev pub OffsetFits : Bound → Type 0
@@ -57,6 +59,11 @@ OffsetFits (Plain n) = n < 256 ^ 4
 OffsetFits (Plus e n) = n < 256 ^ 4
 OffsetFits (Minus e n) = n < 256 ^ 4
 OffsetFits Open = Unit {0}
+
+-- a leaf's numbers fit their four bytes
+abbrev pub LeafFits : Atom → Type 0
+LeafFits (Happens x) = OffsetFits (x .lower) × OffsetFits (x .upper)
+LeafFits (Counts x) = OffsetFits (x .lower) × OffsetFits (x .upper) × (x .threshold < 256 ^ 4)
 
 -- what is read from a place on does not depend on what stands before it
 byte-at : (p q : List ℕ) (n i : ℕ) → length p ≡ n → byteAt (p ++ q) (n + i) ≡ byteAt q i
@@ -75,6 +82,11 @@ bound-at p q n e = rw (sym (ap (byteAt (p ++ q)) (add-zero n)) ∙ byte-at p q n
 offset-back : (a b c n : ℕ) (t : List ℕ) → n < 256 ^ 4 → numberAt 4 (a ∷ b ∷ c ∷ (bytesOf 4 n ++ t)) 3 ≡ n
 unfolding numberAt
 offset-back a b c n t h = rw (take-at (bytesOf 4 n) t 4 (bytes-length 4 n)) (bytes-number 4 n h)
+
+-- so is a threshold
+threshold-back : (a b n : ℕ) (t : List ℕ) → n < 256 ^ 4 → numberAt 4 (a ∷ b ∷ (bytesOf 4 n ++ t)) 2 ≡ n
+unfolding numberAt
+threshold-back a b n t h = rw (take-at (bytesOf 4 n) t 4 (bytes-length 4 n)) (bytes-number 4 n h)
 
 -- an event is read back
 event-back : (e : Event) → eventOf (formOf e) (eventNumber e) ≡ some e
@@ -102,24 +114,25 @@ bound-length (Plus e n) = ap (λ (k : ℕ). suc (suc (suc k))) (bytes-length 4 n
 bound-length (Minus e n) = ap (λ (k : ℕ). suc (suc (suc k))) (bytes-length 4 n)
 bound-length Open = ap (λ (k : ℕ). suc (suc (suc k))) (bytes-length 4 0)
 
--- a leaf is read back, of every event and with bounds of every sign
-pub leaf-back : (x : Leaf) → OffsetFits (x .lower) → OffsetFits (x .upper) → leafOf (leafBytes x) ≡ some x
-unfolding leafOf leafBytes byteAt bind
-leaf-back x p q = rw (event-back (x .event), lower, upper)
-  where
-    f : ℕ
-    f = formOf (x .event)
+-- two bounds at the end of an item are read back
+bounds-back : (p : List ℕ) (n : ℕ) → length p ≡ n → (l u : Bound) → OffsetFits l → OffsetFits u
+    → (boundOf (p ++ (boundBytes l ++ boundBytes u)) n ≡ some l) × (boundOf (p ++ (boundBytes l ++ boundBytes u)) (n + 7) ≡ some u)
+bounds-back p n e l u fl fu = (
+  bound-at p _ n e ∙ bound-back l fl (boundBytes u),
+  rw (← append-assoc p (boundBytes l) (boundBytes u))
+  (bound-at (p ++ boundBytes l) (boundBytes u) (n + 7) (omega (arith, length-append p (boundBytes l), bound-length l, e))
+  ∙ ap (λ (s : List ℕ). boundOf s 0) (sym (append-nil (boundBytes u))) ∙ bound-back u fu []),
+)
 
-    n : ℕ
-    n = eventNumber (x .event)
-
-    lower : boundOf (f ∷ n ∷ (boundBytes (x .lower) ++ boundBytes (x .upper))) 2 ≡ some (x .lower)
-    lower = bound-at (f ∷ n ∷ []) _ 2 refl ∙ bound-back (x .lower) p (boundBytes (x .upper))
-
-    upper : boundOf (f ∷ n ∷ (boundBytes (x .lower) ++ boundBytes (x .upper))) 9 ≡ some (x .upper)
-    upper =
-        bound-at (f ∷ n ∷ boundBytes (x .lower)) (boundBytes (x .upper)) 9 (ap (λ (k : ℕ). suc (suc k)) (bound-length (x .lower)))
-        ∙ ap (λ (s : List ℕ). boundOf s 0) (sym (append-nil (boundBytes (x .upper)))) ∙ bound-back (x .upper) q []
+-- a leaf is read back, of every event, kind and threshold, and with bounds of every sign
+pub leaf-back : (x : Atom) → LeafFits x → leafOf (leafBytes x) ≡ some x
+unfolding leafOf happeningOf countOf leafBytes byteAt bind
+leaf-back (Happens x) fits =
+    let bounds = bounds-back (3 ∷ formOf (x .event) ∷ eventNumber (x .event) ∷ []) 3 refl (x .lower) (x .upper) (fits .0) (fits .1) in
+    rw (event-back (x .event), bounds .0, bounds .1)
+leaf-back (Counts x) fits =
+    let bounds = bounds-back (8 ∷ x .kind ∷ bytesOf 4 (x .threshold)) 6 (ap (λ (k : ℕ). suc (suc k)) (bytes-length 4 (x .threshold))) (x .lower) (x .upper) (fits .0) (fits .1) in
+    rw (threshold-back 8 (x .kind) (x .threshold) _ (fits .2), bounds .0, bounds .1)
 
 -- a form of at most 5 is an event's
 form-read : (form number : ℕ) → form ≤ 5 → (e : Event) × (eventOf form number ≡ some e)
@@ -191,17 +204,37 @@ bound-read terms s at e = go (eqb sign 0) (eqb sign 1) (eqb sign 2) (eqb sign 3)
     go false false false true e = (Open, refl)
     go false false false false e = absurd (true≢false e)
 
--- a leaf that refusal 3 does not turn away is read: no accepted body stands for the leaf that neither occurs nor fails
-pub leaf-read : (terms : Terms) (body : List ℕ) → leafWrong terms body ≡ false → (x : Leaf) × (leafOf body ≡ some x)
-unfolding leafWrong leafOf bind
-leaf-read terms body h =
+-- an item 03 that refusal 3 does not turn away is read
+happening-read : (terms : Terms) (item : List ℕ) → happeningWrong terms item ≡ false → (x : Atom) × (happeningOf item ≡ some x)
+unfolding happeningWrong happeningOf bind
+happening-read terms item h =
     let a = or-false _ _ h in
     let b = or-false _ _ (a .0) in
     let c = or-false _ _ (b .0) in
-    let e = event-read terms (byteAt body 0) (byteAt body 1) (c .0) in
-    let l = bound-read terms body 2 (b .1) in
-    let u = bound-read terms body 9 (a .1) in
-    (record { event = e .0; lower = l .0; upper = u .0 }, rw (e .1, l .1, u .1))
+    let e = event-read terms (byteAt item 1) (byteAt item 2) (c .0) in
+    let l = bound-read terms item 3 (b .1) in
+    let u = bound-read terms item 10 (a .1) in
+    (Happens (record { event = e .0; lower = l .0; upper = u .0 }), rw (e .1, l .1, u .1))
+
+-- so is an item 08
+count-read : (terms : Terms) (item : List ℕ) → countWrong terms item ≡ false → (x : Atom) × (countOf item ≡ some x)
+unfolding countWrong countOf bind
+count-read terms item h =
+    let a = or-false _ _ h in
+    let b = or-false _ _ (a .0) in
+    let c = or-false (leb (length (terms .kinds)) (byteAt item 1) || eqb (byteAt item 6) 3) (boundWrong terms item 6) (b .0) in
+    let l = bound-read terms item 6 (c .1) in
+    let u = bound-read terms item 13 (a .1) in
+    (Counts (record { kind = byteAt item 1; threshold = numberAt 4 item 2; lower = l .0; upper = u .0 }), rw (l .1, u .1))
+
+-- a leaf that refusal 3 does not turn away is read: no accepted item stands for the leaf that neither occurs nor fails
+pub leaf-read : (terms : Terms) (item : List ℕ) → leafWrong terms item ≡ false → (x : Atom) × (leafOf item ≡ some x)
+unfolding leafWrong leafOf
+leaf-read terms item h = go (eqb (byteAt item 0) 8) h
+  where
+    go : (b : Bool) → cond b (countWrong terms item) (happeningWrong terms item) ≡ false → (x : Atom) × (cond b (countOf item) (happeningOf item) ≡ some x)
+    go true h = count-read terms item h
+    go false h = happening-read terms item h
 
 -- what neither occurs nor fails
 abbrev pub Silent : Times → Type 0

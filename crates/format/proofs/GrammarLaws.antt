@@ -18,7 +18,7 @@ use lib.ListN.{length}
 use Rattle.meaning.specs.Lists.{isEmpty, All}
 use Rattle.meaning.specs.Terms.{Expr, leaf, and, or, except, always, leaves}
 use Rattle.format.specs.Bytes.{Reader, many, item}
-use Rattle.format.specs.Grammar.{SchemaItems, TermsFile, size, readBoth, readExpr, kindsLimit, schemasLimit, exprLimit, readClause, readSchema, fileOf, breaksGrammar, exprBytes, schemaBytes, termsBytes, WholeExpr, WholeSchema, Grammatical}
+use Rattle.format.specs.Grammar.{SchemaItems, TermsFile, size, readBoth, readLeaf, readExpr, kindsLimit, schemasLimit, exprLimit, readClause, readSchema, fileOf, breaksGrammar, exprBytes, schemaBytes, termsBytes, WholeLeaf, item-03, item-08, WholeExpr, WholeSchema, Grammatical}
 use Rattle.meaning.proofs.ListLaws.{all-append, all-split}
 use Rattle.format.proofs.ReaderLaws.{none-some, found-eq, bind-cases, orElse-cases, item-sound, item-whole, many-bytes, many-all, many-count, many-whole}
 
@@ -31,26 +31,27 @@ size-positive (or a b) = omega arith
 size-positive (except a b) = omega arith
 size-positive always = omega arith
 
--- an expression as its items' bodies
+-- an expression as its items
 abbrev pub E : Type 0
 E = Expr (List ℕ)
 
--- a leaf's body has 16 bytes
-abbrev pub Sixteen : List ℕ → Type 0
-Sixteen body = length body ≡ 16
+-- a whole leaf has a byte
+leaf-long : (item : List ℕ) → WholeLeaf item → 1 ≤ length item
+leaf-long item (item-03 body l) = omega arith
+leaf-long item (item-08 body l) = omega arith
 
--- an expression has a byte
-pub expr-long : (x : E) → 1 ≤ length (exprBytes x)
-unfolding exprBytes
-expr-long (leaf body) = omega arith
-expr-long (and a b) = omega arith
-expr-long (or a b) = omega arith
-expr-long (except a b) = omega arith
-expr-long always = omega arith
+-- an expression of whole leaves has one
+pub expr-long : (x : E) → All WholeLeaf (leaves x) → 1 ≤ length (exprBytes x)
+unfolding exprBytes leaves
+expr-long (leaf item) w = leaf-long item (w .0)
+expr-long (and a b) w = omega arith
+expr-long (or a b) w = omega arith
+expr-long (except a b) w = omega arith
+expr-long always w = omega arith
 
 -- x stands at the front of s, before t, with at most so many items
 abbrev Stands : ℕ → List ℕ → E → List ℕ → Type 0
-Stands items s x t = (s ≡ exprBytes x ++ t) × (size x ≤ items) × All Sixteen (leaves x)
+Stands items s x t = (s ≡ exprBytes x ++ t) × (size x ≤ items) × All WholeLeaf (leaves x)
 
 -- what the three connectives share
 pub record Connective (kind : ℕ) (join : E → E → E) : Type 0 where
@@ -99,28 +100,30 @@ module _ (reader : ℕ → Reader E) (items kind : ℕ) (join : E → E → E) (
       rw (← found .0, ← found .1) (
         rw (is .bytes, append-assoc) (cc (bare-sound kind s p, left .0, right .0)),
         omega (arith, is .items (a .0) (b .0), left .1, right .1),
-        rw (is .bodies) (all-append Sixteen (leaves (a .0)) (leaves (b .0)) (left .2) (right .2)),
+        rw (is .bodies) (all-append WholeLeaf (leaves (a .0)) (leaves (b .0)) (left .2) (right .2)),
       )
 
-  both-whole : (n : ℕ) → ((items : ℕ) (x : E) (t : List ℕ) → size x ≤ n → size x ≤ items → All Sixteen (leaves x) → reader items (exprBytes x ++ t) ≡ some (x, t))
-      → (a b : E) (t : List ℕ) → size (join a b) ≤ suc n → size (join a b) ≤ suc items → All Sixteen (leaves (join a b))
+  both-whole : (n : ℕ) → ((items : ℕ) (x : E) (t : List ℕ) → size x ≤ n → size x ≤ items → All WholeLeaf (leaves x) → reader items (exprBytes x ++ t) ≡ some (x, t))
+      → (a b : E) (t : List ℕ) → size (join a b) ≤ suc n → size (join a b) ≤ suc items → All WholeLeaf (leaves (join a b))
       → bind (item kind 0 (exprBytes (join a b) ++ t)) (λ h. readBoth reader items join (h .1)) ≡ some (join a b, t)
   unfolding readBoth bind
   both-whole n whole a b t p q r =
-      let both = all-split Sixteen (leaves a) (leaves b) (rw (is .bodies) at r) in
+      let both = all-split WholeLeaf (leaves a) (leaves b) (rw (is .bodies) at r) in
       let count = is .items a b in
       rw (is .bytes, append-assoc, item-whole kind 0 []) (simp (
         whole items a (exprBytes b ++ t) (omega arith) (omega arith) (both .0),
         whole (items - size a) b t (omega arith) (omega arith) (both .1),
       ))
 
-leaf-sound : (items : ℕ) (s : List ℕ) (x : E) (t : List ℕ) → bind {B = E × List ℕ} (item 3 16 s) (λ h. some (leaf (h .0), h .1)) ≡ some (x, t) → Stands (suc items) s x t
-unfolding exprBytes size leaves
-leaf-sound items s x t e =
-    bind-cases (item 3 16 s) _ e λ h p e₁.
-    let front = item-sound 3 16 s p in
-    let found : (leaf (h .0) ≡ x) × (h .1 ≡ t) = found-eq e₁ in
-    rw (← found .0, ← found .1) (front .0, omega arith, (front .1, tt))
+-- a leaf of either kind
+leaf-sound : (kind n : ℕ) → ((body : List ℕ) → length body ≡ n → WholeLeaf (kind ∷ body))
+    → (items : ℕ) (s : List ℕ) (x : E) (t : List ℕ) → readLeaf kind n s ≡ some (x, t) → Stands (suc items) s x t
+unfolding readLeaf exprBytes size leaves
+leaf-sound kind n whole items s x t e =
+    bind-cases (item kind n s) _ e λ h p e₁.
+    let front = item-sound kind n s p in
+    let found : (leaf (kind ∷ h .0) ≡ x) × (h .1 ≡ t) = found-eq e₁ in
+    rw (← found .0, ← found .1) (front .0, omega arith, (whole (h .0) (front .1), tt))
 
 always-sound : (items : ℕ) (s : List ℕ) (x : E) (t : List ℕ) → bind {B = E × List ℕ} (item 7 0 s) (λ h. some (always, h .1)) ≡ some (x, t) → Stands (suc items) s x t
 unfolding exprBytes size leaves
@@ -129,26 +132,31 @@ always-sound items s x t e =
     let found : (always ≡ x) × (h .1 ≡ t) = found-eq e₁ in
     rw (← found .0, ← found .1) (bare-sound 7 s p, omega arith, tt)
 
--- what is read as an expression stands there, is within the count, and has leaves of 16 bytes
+-- what is read as an expression stands there, is within the count, and has whole leaves
 pub expr-read : (n items : ℕ) (s : List ℕ) (x : Expr (List ℕ)) (t : List ℕ) → readExpr n items s ≡ some (x, t)
-    → (s ≡ exprBytes x ++ t) × (size x ≤ items) × All (λ body. length body ≡ 16) (leaves x)
+    → (s ≡ exprBytes x ++ t) × (size x ≤ items) × All WholeLeaf (leaves x)
 unfolding readExpr
 expr-read zero items s x t e = none-some e
 expr-read (suc n) zero s x t e = none-some e
 expr-read (suc n) (suc items) s x t e =
-    orElse-cases (leaf-sound items s x t)
+    orElse-cases (leaf-sound 3 16 item-03 items s x t)
     (orElse-cases (both-sound (readExpr n) items 4 and and-is (expr-read n) s x t)
     (orElse-cases (both-sound (readExpr n) items 5 or or-is (expr-read n) s x t)
     (orElse-cases (both-sound (readExpr n) items 6 except except-is (expr-read n) s x t)
-    (always-sound items s x t)))) e
+    (orElse-cases (always-sound items s x t)
+    (leaf-sound 8 19 item-08 items s x t))))) e
 
--- an expression within the count, with leaves of 16 bytes, is read back from its writing; depth as much as items is enough
-pub expr-whole : (n items : ℕ) (x : Expr (List ℕ)) (t : List ℕ) → size x ≤ n → size x ≤ items → All (λ body. length body ≡ 16) (leaves x)
+-- an expression within the count, with whole leaves, is read back from its writing; depth as much as items is enough
+pub expr-whole : (n items : ℕ) (x : Expr (List ℕ)) (t : List ℕ) → size x ≤ n → size x ≤ items → All WholeLeaf (leaves x)
     → readExpr n items (exprBytes x ++ t) ≡ some (x, t)
-unfolding readExpr exprBytes size leaves item bind
+unfolding readLeaf readExpr exprBytes size leaves item bind
 expr-whole zero items x t p q r = absurd (omega (arith, size-positive x))
 expr-whole (suc n) zero x t p q r = absurd (omega (arith, size-positive x))
-expr-whole (suc n) (suc items) (leaf body) t p q r = rw (item-whole 3 16 body t (r .0))
+expr-whole (suc n) (suc items) (leaf x) t p q r = go x (r .0)
+  where
+    go : (x : List ℕ) → WholeLeaf x → readExpr (suc n) (suc items) (x ++ t) ≡ some (leaf x, t)
+    go x (item-03 body l) = rw (item-whole 3 16 body t l)
+    go x (item-08 body l) = rw (item-whole 8 19 body t l)
 expr-whole (suc n) (suc items) (and a b) t p q r = rw (both-whole (readExpr n) items 4 and and-is n (expr-whole n) a b t p q r)
 expr-whole (suc n) (suc items) (or a b) t p q r = rw (both-whole (readExpr n) items 5 or or-is n (expr-whole n) a b t p q r)
 expr-whole (suc n) (suc items) (except a b) t p q r = rw (both-whole (readExpr n) items 6 except except-is n (expr-whole n) a b t p q r)
@@ -156,11 +164,11 @@ expr-whole (suc n) (suc items) always t p q r = rw (item-whole 7 0 [] t refl)
 
 clause-read : (s : List ℕ) (x : E) (t : List ℕ) → readClause s ≡ some (x, t) → (s ≡ exprBytes x ++ t) × WholeExpr x
 unfolding readClause
-clause-read s x t e = let found = expr-read exprLimit exprLimit s x t e in (found .0, record { items = found .1; bodies = found .2 })
+clause-read s x t e = let found = expr-read exprLimit exprLimit s x t e in (found .0, record { items = found .1; whole-leaves = found .2 })
 
 clause-whole : (x : E) (t : List ℕ) → WholeExpr x → readClause (exprBytes x ++ t) ≡ some (x, t)
 unfolding readClause
-clause-whole x t whole = expr-whole exprLimit exprLimit x t (whole .items) (whole .items) (whole .bodies)
+clause-whole x t whole = expr-whole exprLimit exprLimit x t (whole .items) (whole .items) (whole .whole-leaves)
 
 -- four writings before a fifth
 four : (a b c d t : List ℕ) → (a ++ (b ++ (c ++ d))) ++ t ≡ a ++ (b ++ (c ++ (d ++ t)))

@@ -5,7 +5,7 @@
 --     number-two, number-four                                     the two sums that code computes
 --     left-over, byte-inside                                      whether a place is inside the bytes
 --     drop-take, drop-here, item-…                                the front of the bytes from a place on, and the item that stands there or does not
---     bound-here, leafBy, leaf-here, …-wrong-here                 a leaf's fields, and refusal 3 of them, by the bytes of the whole
+--     bound-here, leafBy, countBy, …-here, …-wrong-here            a leaf's fields, and refusal 3 of them, by the bytes of the whole
 --     event-bound-wrong, no-bound-wrong                           refusal 3 at a bound with an event, and at one of no sign
 -- Assumes nothing.
 use Prim.Native.Nat.{ℕ, zero, suc, _+_, _-_, _*_, _≤_, _<_}
@@ -16,17 +16,18 @@ use mathlib.Core.Path.{_≡_, refl, ap, sym, _∙_}
 use mathlib.Core.Bool.{Bool, true, false, cond, not, _||_, and-false}
 use mathlib.Core.List.{List, [], _∷_}
 use mathlib.Core.Option.{Option, none, some, bind}
-use lib.Dec.{ltb, eqb}
+use lib.Dec.{leb, ltb, eqb}
 use lib.ListN.{length, take, drop, length-drop, drop-of-length-le, List·getD-eq-default}
 use lib.Seq.{take-nil, drop-cons, getD-take, getD-drop, take-take, drop-drop}
 use borrow.Author.Tests.{ltb-true, ltb-false, le-leb, lt-leb, eq-eqb, ne-eqb}
 use Rattle.meaning.specs.declared.Event.{Event}
 use Rattle.meaning.specs.declared.Bound.{Bound}
-use Rattle.meaning.specs.declared.Leaf.{Leaf}
+use Rattle.meaning.specs.declared.Atom.{Atom}
+use Rattle.meaning.specs.declared.Atom.the-variants.{Happens, Counts}
 use Rattle.meaning.specs.Lists.{isEmpty}
 use Rattle.meaning.specs.Terms.{Terms}
 use Rattle.format.specs.Bytes.{numberOf, byteAt, numberAt, item}
-use Rattle.format.specs.Fields.{eventOf, boundOf, leafOf, neither, leafFrom, offsetLimit, eventWrong, boundWrong, leafWrong}
+use Rattle.format.specs.Fields.{eventOf, boundOf, happeningOf, countOf, leafOf, neither, leafFrom, offsetLimit, eventWrong, boundWrong, happeningWrong, countWrong, leafWrong}
 
 -- a byte behind a place
 pub byte-drop : (s : List ℕ) (at i : ℕ) → byteAt (drop at s) i ≡ byteAt s (at + i)
@@ -164,51 +165,96 @@ bound-wrong-here terms s at i n h =
 pub byte-first : (s : List ℕ) (at n : ℕ) → 0 < n → byteAt (take n (drop at s)) 0 ≡ byteAt s at
 byte-first s at n h = byte-within s at 0 n h ∙ ap (byteAt s) (add-zero at)
 
--- a leaf by what is read of it: its event, its lower and its upper bound
-abbrev pub leafBy : Option Event → Option Bound → Option Bound → Leaf
+-- an item 03 by what is read of it: its event, its lower and its upper bound
+abbrev pub leafBy : Option Event → Option Bound → Option Bound → Atom
 leafBy none l u = neither
 leafBy (some e) none u = neither
 leafBy (some e) (some l) none = neither
-leafBy (some e) (some l) (some u) = record { event = e; lower = l; upper = u }
+leafBy (some e) (some l) (some u) = Happens (record { event = e; lower = l; upper = u })
 
--- a body is read in that order
-leaf-by : (body : List ℕ) → leafFrom body ≡ leafBy (eventOf (byteAt body 0) (byteAt body 1)) (boundOf body 2) (boundOf body 9)
-unfolding leafFrom leafOf bind
-leaf-by body = go (eventOf (byteAt body 0) (byteAt body 1)) (boundOf body 2) (boundOf body 9)
+-- an item 08: its kind, its threshold, its lower and its upper bound
+abbrev pub countBy : ℕ → ℕ → Option Bound → Option Bound → Atom
+countBy kind threshold none u = neither
+countBy kind threshold (some l) none = neither
+countBy kind threshold (some l) (some u) = Counts (record { kind = kind; threshold = threshold; lower = l; upper = u })
+
+-- what is read, or what neither occurs nor fails
+abbrev orNeither : Option Atom → Atom
+orNeither x = elim x [ none ↦ neither | some y ↦ y ]
+
+-- an item 03 is read in that order
+leaf-by : (item : List ℕ) → byteAt item 0 ≡ 3 → leafFrom item ≡ leafBy (eventOf (byteAt item 1) (byteAt item 2)) (boundOf item 3) (boundOf item 10)
+unfolding leafFrom leafOf happeningOf bind
+leaf-by item b = rw (leafFrom, b) (go (eventOf (byteAt item 1) (byteAt item 2)) (boundOf item 3) (boundOf item 10))
   where
-    orNeither : Option Leaf → Leaf
-    orNeither x = elim x [ none ↦ neither | some y ↦ y ]
-
     go : (e : Option Event) (l u : Option Bound)
-        → orNeither (bind e λ e. bind l λ l. bind u λ u. some (record { event = e; lower = l; upper = u })) ≡ leafBy e l u
+        → orNeither (bind e λ e. bind l λ l. bind u λ u. some (Happens (record { event = e; lower = l; upper = u }))) ≡ leafBy e l u
     go none l u = refl
     go (some e) none u = refl
     go (some e) (some l) none = refl
     go (some e) (some l) (some u) = refl
 
--- the leaf whose body stands at a place
-pub leaf-here : (s : List ℕ) (at : ℕ)
-    → leafFrom (take 16 (drop at s)) ≡ leafBy (eventOf (byteAt s at) (byteAt s (at + 1))) (boundOf s (at + 2)) (boundOf s (at + 9))
-leaf-here s at =
+-- so is an item 08
+count-by : (item : List ℕ) → byteAt item 0 ≡ 8 → leafFrom item ≡ countBy (byteAt item 1) (numberAt 4 item 2) (boundOf item 6) (boundOf item 13)
+unfolding leafFrom leafOf countOf bind
+count-by item b = rw (leafFrom, b) (go (boundOf item 6) (boundOf item 13))
+  where
+    go : (l u : Option Bound)
+        → orNeither (bind l λ l. bind u λ u. some (Counts (record { kind = byteAt item 1; threshold = numberAt 4 item 2; lower = l; upper = u }))) ≡ countBy (byteAt item 1) (numberAt 4 item 2) l u
+    go none u = refl
+    go (some l) none = refl
+    go (some l) (some u) = refl
+
+-- the item 03 at a place
+pub leaf-here : (s : List ℕ) (at : ℕ) → byteAt s at ≡ 3
+    → leafFrom (take 17 (drop at s)) ≡ leafBy (eventOf (byteAt s (at + 1)) (byteAt s (at + 2))) (boundOf s (at + 3)) (boundOf s (at + 10))
+leaf-here s at b =
     rw (
-      leaf-by (take 16 (drop at s)),
-      byte-first s at 16 (omega arith),
-      byte-within s at 1 16 (omega arith),
-      bound-here s at 2 16 (omega arith),
-      bound-here s at 9 16 (omega arith),
+      leaf-by (take 17 (drop at s)) (byte-first s at 17 (omega arith) ∙ b),
+      byte-within s at 1 17 (omega arith),
+      byte-within s at 2 17 (omega arith),
+      bound-here s at 3 17 (omega arith),
+      bound-here s at 10 17 (omega arith),
     )
 
--- and refusal 3 of it
-pub leaf-wrong-here : (terms : Terms) (s : List ℕ) (at : ℕ) → leafWrong terms (take 16 (drop at s))
-    ≡ (eventWrong terms (byteAt s at) (byteAt s (at + 1)) || eqb (byteAt s (at + 2)) 3 || boundWrong terms s (at + 2) || boundWrong terms s (at + 9))
-unfolding leafWrong
-leaf-wrong-here terms s at =
+-- the item 08 at a place
+pub count-here : (s : List ℕ) (at : ℕ) → byteAt s at ≡ 8
+    → leafFrom (take 20 (drop at s)) ≡ countBy (byteAt s (at + 1)) (numberAt 4 s (at + 2)) (boundOf s (at + 6)) (boundOf s (at + 13))
+count-here s at b =
     rw (
-      byte-first s at 16 (omega arith),
-      byte-within s at 1 16 (omega arith),
-      byte-within s at 2 16 (omega arith),
-      bound-wrong-here terms s at 2 16 (omega arith),
-      bound-wrong-here terms s at 9 16 (omega arith),
+      count-by (take 20 (drop at s)) (byte-first s at 20 (omega arith) ∙ b),
+      byte-within s at 1 20 (omega arith),
+      number-within 4 s at 2 20 (omega arith),
+      bound-here s at 6 20 (omega arith),
+      bound-here s at 13 20 (omega arith),
+    )
+
+-- refusal 3 of an item 03
+pub leaf-wrong-here : (terms : Terms) (s : List ℕ) (at : ℕ) → byteAt s at ≡ 3 → leafWrong terms (take 17 (drop at s))
+    ≡ (eventWrong terms (byteAt s (at + 1)) (byteAt s (at + 2)) || eqb (byteAt s (at + 3)) 3 || boundWrong terms s (at + 3) || boundWrong terms s (at + 10))
+unfolding leafWrong happeningWrong
+leaf-wrong-here terms s at b =
+    rw (
+      byte-first s at 17 (omega arith) ∙ b,
+      byte-within s at 1 17 (omega arith),
+      byte-within s at 2 17 (omega arith),
+      byte-within s at 3 17 (omega arith),
+      bound-wrong-here terms s at 3 17 (omega arith),
+      bound-wrong-here terms s at 10 17 (omega arith),
+    )
+
+-- and of an item 08
+pub count-wrong-here : (terms : Terms) (s : List ℕ) (at : ℕ) → byteAt s at ≡ 8 → leafWrong terms (take 20 (drop at s))
+    ≡ (leb (length (terms .kinds)) (byteAt s (at + 1)) || eqb (byteAt s (at + 6)) 3 || boundWrong terms s (at + 6) || eqb (byteAt s (at + 13)) 3 || boundWrong terms s (at + 13))
+unfolding leafWrong countWrong
+count-wrong-here terms s at b =
+    rw (
+      byte-first s at 20 (omega arith) ∙ b,
+      byte-within s at 1 20 (omega arith),
+      byte-within s at 6 20 (omega arith),
+      byte-within s at 13 20 (omega arith),
+      bound-wrong-here terms s at 6 20 (omega arith),
+      bound-wrong-here terms s at 13 20 (omega arith),
     )
 
 -- what signs 1 and 2 share, in a choice by signs

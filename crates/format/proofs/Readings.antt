@@ -12,7 +12,7 @@ use Rattle.format.specs.Grammar.{fileOf, breaksGrammar}
 use Rattle.format.specs.Fields.{termsOf, fieldWrong, citationWrong, unsharedEvent}
 use Rattle.format.specs.Records.{valueWidth, brokenRecord, notOneRecord}
 use Rattle.meaning.proofs.Cases.{Case, case, Hold, hold-all}
-use Rattle.format.proofs.CaseBytes.{word, event, sAt, eAt, kind, schema, leaf, and, or, except, always, bound, plain, plus, minus, unbounded, S, E, F, created, detached, expired, discharged, violated, kinds, norm, clauses, plainSchema, apart, apartWith, X, nothing, E10}
+use Rattle.format.proofs.CaseBytes.{word, event, sAt, eAt, kind, schema, leaf, moreThan, and, or, except, always, bound, plain, plus, minus, unbounded, S, E, F, created, detached, expired, discharged, violated, kinds, norm, clauses, plainSchema, apart, apartWith, X, nothing, E10}
 use Rattle.format.proofs.Computes.{computes}
 
 -- whether refusals 2, 3, 4 and 5 hold
@@ -46,6 +46,15 @@ abbrev deepLeft : ℕ → List ℕ
 deepLeft zero = always
 deepLeft (suc n) = or (deepLeft n) always
 
+-- the same with counts
+abbrev countsTo : ℕ → List ℕ
+countsTo zero = moreThan 0 1 (plain 0) (plain 10)
+countsTo (suc n) = and (moreThan 0 1 (plain 0) (plain 10)) (countsTo n)
+
+-- the detach clause is this count, the others are always
+abbrev count : ℕ → ℕ → List ℕ → List ℕ → List ℕ
+count threshold kind lower upper = norm 2 always (moreThan threshold kind lower upper) always
+
 -- the second list's cases that are about the bytes of terms
 abbrev termsCases : List (Case (List Bool))
 termsCases =
@@ -59,12 +68,20 @@ termsCases =
     ∷ terms (clauses always always (and always [])) 2
     ∷ terms (clauses always always (0x03 ∷ replicate 15 0)) 2
     ∷ terms (clauses always always (0x03 ∷ replicate 16 0)) 0
+    ∷ terms (clauses always always (0x08 ∷ [])) 2
+    ∷ terms (clauses always always (0x08 ∷ replicate 18 0)) 2
+    ∷ terms (clauses always always (0x08 ∷ replicate 19 0)) 0
     ∷ terms (clauses always (0x08 ∷ []) always) 2
+    ∷ terms (clauses always (0x09 ∷ []) always) 2
+    ∷ terms (clauses always (0x09 ∷ replicate 19 0) always) 2
     ∷ terms (clauses always always always ++ (0x07 ∷ [])) 2
     ∷ terms (clauses always always always ++ (0x00 ∷ [])) 2
     ∷ terms (clauses always always always ++ kind 3 0b1 0) 2
     ∷ terms (kind 0 0 0 ++ plainSchema ++ (0x07 ∷ [])) 2
     ∷ terms (kind 0 0 0 ++ plainSchema) 3
+    -- an item 08 is one item of an expression
+    ∷ terms (clauses (countsTo 15) always (countsTo 15)) 0
+    ∷ terms (clauses always (countsTo 16) always) 2
     -- 1 to 32 kinds, 1 to 16 schemas, 1 to 31 items; an expression has an odd number of items, so 33 come next
     ∷ terms (kindsTo 32 ++ plainSchema) 0
     ∷ terms (kindsTo 33 ++ plainSchema) 2
@@ -114,7 +131,26 @@ termsCases =
     ∷ terms (one E (plus F 2147483647) (minus F 2147483647)) 0
     ∷ terms (one E (plus F 2147483648) unbounded) 3
     ∷ terms (one E (plain 0) (minus F 2147483648)) 3
+    -- B4 at a count: a declared kind, any threshold, no bound open, all else in its bounds as in a leaf's
+    ∷ terms (count 0 2 (plain 0) (plain 10)) 0
+    ∷ terms (count 0 3 (plain 0) (plain 10)) 3
+    ∷ terms (count 0 255 (plain 0) (plain 10)) 3
+    ∷ terms (count 4294967295 1 (plain 0) (plain 10)) 0
+    ∷ terms (count 0 1 unbounded (plain 10)) 3
+    ∷ terms (count 0 1 (plain 0) unbounded) 3
+    ∷ terms (count 0 1 (bound 4 0 0 0) (plain 10)) 3
+    ∷ terms (count 0 1 (plain 0) (bound 4 0 0 0)) 3
+    ∷ terms (count 0 1 (plus (0 ∷ 2 ∷ []) 0) (minus (0 ∷ 2 ∷ []) 0)) 0
+    ∷ terms (count 0 1 (plus (0 ∷ 3 ∷ []) 0) (plain 10)) 3
+    ∷ terms (count 0 1 (plain 0) (minus (0 ∷ 3 ∷ []) 0)) 3
+    ∷ terms (count 0 1 (plus (6 ∷ 0 ∷ []) 0) (plain 10)) 3
+    ∷ terms (count 0 1 (plain 0) (minus (6 ∷ 0 ∷ []) 0)) 3
+    ∷ terms (count 0 1 (plain 2147483647) (plus F 2147483647)) 0
+    ∷ terms (count 0 1 (plain 2147483648) (plain 10)) 3
+    ∷ terms (count 0 1 (plain 0) (plus F 2147483648)) 3
     -- B5: required zeros; a form under sign 0 is no citation
+    ∷ terms (count 0 1 (bound 0 2 0 0) (plain 10)) 3
+    ∷ terms (count 0 1 (plain 0) (bound 0 0 1 0)) 3
     ∷ terms (one E (bound 0 2 0 0) unbounded) 3
     ∷ terms (one E (bound 0 0 1 0) unbounded) 3
     ∷ terms (one E (plain 0) (bound 0 2 0 0)) 3
@@ -141,6 +177,10 @@ termsCases =
     ∷ terms (clauses always always always ++ schema 2 0 0 0 (leaf (discharged 0) (plus (violated 0) 0) unbounded) always always) 0
     ∷ terms (clauses always always always ++ schema 2 0 0 0 (leaf (created 1) (plain 0) unbounded) always always) 4
     ∷ terms (clauses always always (leaf (created 1) (plain 0) unbounded) ++ schema 2 0 0 0 always always always) 4
+    ∷ terms (count 0 1 (plus (created 0) 0) (plain 10)) 0
+    ∷ terms (count 0 1 (plain 0) (plus (created 0) 9)) 0
+    ∷ terms (count 0 1 (plus (detached 0) 0) (plain 10)) 4
+    ∷ terms (count 0 1 (plain 0) (minus (detached 0) 9)) 4
     -- B1: a schema that isn't there ranks above every clause
     ∷ terms (clauses always always (leaf (created 1) (plain 0) unbounded)) 4
     ∷ terms (clauses always always (leaf (created 16) (plain 0) unbounded)) 4
@@ -157,6 +197,10 @@ termsCases =
     ∷ terms (apart ++ schema 2 0 0 0 always always (leaf X (plain 0) unbounded)) 5
     ∷ terms (sharing 0x8001 0x8004) 0
     ∷ terms (sharing 0x4001 0x8004) 5
+    ∷ terms (apartWith (moreThan 0 1 (plus E 0) (minus E 0))) 0
+    ∷ terms (apartWith (moreThan 0 2 (plain 0) (plain 10))) 5
+    ∷ terms (apartWith (moreThan 0 1 (plus X 0) (plain 10))) 5
+    ∷ terms (apartWith (moreThan 0 1 (plain 0) (minus X 0))) 5
     -- B8: unused kinds, equal masks, one attribute for both parties, two schemas on one kind: nothing refuses them
     ∷ terms (kind 0 0b1 0 ++ kind 1 0b1 0 ++ plainSchema ++ plainSchema) 0
     ∷ []

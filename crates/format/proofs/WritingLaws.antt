@@ -7,16 +7,18 @@ use lib.ListN.{length, length-append, length-map}
 use lib.Seq.{take-at}
 use Rattle.meaning.specs.declared.NormType.{NormType}
 use Rattle.meaning.specs.declared.NormType.the-variants.{Commitment, Authorization, Prohibition, Power}
-use Rattle.meaning.specs.declared.Leaf.{Leaf}
+use Rattle.meaning.specs.declared.Bound.{Bound}
+use Rattle.meaning.specs.declared.Atom.{Atom}
+use Rattle.meaning.specs.declared.Atom.the-variants.{Happens, Counts}
 use Rattle.meaning.specs.Lists.{All}
 use Rattle.meaning.specs.Terms.{EventKind, Expr, leaf, and, or, except, always, Schema, Terms, leaves}
 use Rattle.format.specs.Bytes.{bytesOf, numberAt, byteAt}
-use Rattle.format.specs.Grammar.{SchemaItems, size, kindsLimit, schemasLimit, exprLimit, WholeExpr, WholeSchema, termsBytes}
+use Rattle.format.specs.Grammar.{SchemaItems, size, kindsLimit, schemasLimit, exprLimit, WholeLeaf, item-03, item-08, WholeExpr, WholeSchema, termsBytes}
 use Rattle.format.specs.Fields.{kindFrom, normTypeOf, leafFrom, exprFrom, schemaFrom, termsFrom, termsOf}
 use Rattle.meaning.proofs.ListLaws.{all-append, all-split, all-map}
 use Rattle.format.proofs.NumberLaws.{bytes-length, bytes-number}
 use Rattle.format.proofs.GrammarLaws.{file-of-writing}
-use Rattle.format.proofs.FieldLaws.{boundBytes, leafBytes, bound-length, OffsetFits, leaf-back}
+use Rattle.format.proofs.FieldLaws.{formOf, eventNumber, boundBytes, leafBytes, bound-length, LeafFits, leaf-back}
 
 -- the body of an item 01 at place i
 unfoldable pub kindBody : ℕ → EventKind → List ℕ
@@ -35,7 +37,7 @@ typeNumber Prohibition = 3
 typeNumber Power = 4
 
 -- an expression's items
-unfoldable pub exprItems : Expr Leaf → Expr (List ℕ)
+unfoldable pub exprItems : Expr Atom → Expr (List ℕ)
 exprItems (leaf x) = leaf (leafBytes x)
 exprItems (and a b) = and (exprItems a) (exprItems b)
 exprItems (or a b) = or (exprItems a) (exprItems b)
@@ -51,12 +53,12 @@ schemaItems x = record {
   consequent = exprItems (x .consequent);
 }
 
--- an expression that can be written: within the count, with offsets of four bytes
-pub record WritableExpr (x : Expr Leaf) : Type 0 where
+-- an expression that can be written: within the count, with thresholds and offsets of four bytes
+pub record WritableExpr (x : Expr Atom) : Type 0 where
   -- within the count
   pub items : size x ≤ exprLimit
-  -- the offsets of its bounds
-  pub offsets : All (λ (l : Leaf). OffsetFits (l .lower) × OffsetFits (l .upper)) (leaves x)
+  -- the numbers of its leaves
+  pub numbers : All LeafFits (leaves x)
 
 -- a schema whose clauses can be written
 pub record WritableSchema (x : Schema) : Type 0 where
@@ -94,21 +96,17 @@ type-back Authorization = refl
 type-back Prohibition = refl
 type-back Power = refl
 
--- what each leaf of an expression has, its parts' leaves have
-abbrev LeafFits : Leaf → Type 0
-LeafFits l = OffsetFits (l .lower) × OffsetFits (l .upper)
-
 -- an expression is read back from its items
-expr-back : (x : Expr Leaf) → All LeafFits (leaves x) → exprFrom (exprItems x) ≡ x
+expr-back : (x : Expr Atom) → All LeafFits (leaves x) → exprFrom (exprItems x) ≡ x
 unfolding exprFrom exprItems leafFrom leaves
-expr-back (leaf x) h = rw (leaf-back x (h .0 .0) (h .0 .1), leafFrom)
+expr-back (leaf x) h = rw (leaf-back x (h .0), leafFrom)
 expr-back (and a b) h = let p = all-split LeafFits (leaves a) (leaves b) h in ap₂ and (expr-back a (p .0)) (expr-back b (p .1))
 expr-back (or a b) h = let p = all-split LeafFits (leaves a) (leaves b) h in ap₂ or (expr-back a (p .0)) (expr-back b (p .1))
 expr-back (except a b) h = let p = all-split LeafFits (leaves a) (leaves b) h in ap₂ except (expr-back a (p .0)) (expr-back b (p .1))
 expr-back always h = refl
 
 -- its items are as many as it has
-size-items : (x : Expr Leaf) → size (exprItems x) ≡ size x
+size-items : (x : Expr Atom) → size (exprItems x) ≡ size x
 unfolding size exprItems
 size-items (leaf x) = refl
 size-items (and a b) = rw (size-items a, size-items b)
@@ -116,21 +114,30 @@ size-items (or a b) = rw (size-items a, size-items b)
 size-items (except a b) = rw (size-items a, size-items b)
 size-items always = refl
 
--- a leaf has 16 bytes
-leaf-length : (x : Leaf) → length (leafBytes x) ≡ 16
-unfolding leafBytes
-leaf-length x = omega (arith, length-append (boundBytes (x .lower)) (boundBytes (x .upper)), bound-length (x .lower), bound-length (x .upper))
+-- two bounds have 14 bytes
+bounds-length : (l u : Bound) → length (boundBytes l ++ boundBytes u) ≡ 14
+bounds-length l u = omega (arith, length-append (boundBytes l) (boundBytes u), bound-length l, bound-length u)
 
-leaves-whole : (x : Expr Leaf) → All (λ body. length body ≡ 16) (leaves (exprItems x))
+-- a leaf that is written is whole
+leaf-whole : (x : Atom) → WholeLeaf (leafBytes x)
+unfolding leafBytes
+leaf-whole (Happens x) =
+    item-03 (formOf (x .event) ∷ eventNumber (x .event) ∷ (boundBytes (x .lower) ++ boundBytes (x .upper))) (omega (arith, bounds-length (x .lower) (x .upper)))
+leaf-whole (Counts x) =
+    let bounds = boundBytes (x .lower) ++ boundBytes (x .upper) in
+    item-08 (x .kind ∷ (bytesOf 4 (x .threshold) ++ bounds))
+    (omega (arith, length-append (bytesOf 4 (x .threshold)) bounds, bytes-length 4 (x .threshold), bounds-length (x .lower) (x .upper)))
+
+leaves-whole : (x : Expr Atom) → All WholeLeaf (leaves (exprItems x))
 unfolding leaves exprItems
-leaves-whole (leaf x) = (leaf-length x, tt)
-leaves-whole (and a b) = all-append (λ body. length body ≡ 16) (leaves (exprItems a)) (leaves (exprItems b)) (leaves-whole a) (leaves-whole b)
-leaves-whole (or a b) = all-append (λ body. length body ≡ 16) (leaves (exprItems a)) (leaves (exprItems b)) (leaves-whole a) (leaves-whole b)
-leaves-whole (except a b) = all-append (λ body. length body ≡ 16) (leaves (exprItems a)) (leaves (exprItems b)) (leaves-whole a) (leaves-whole b)
+leaves-whole (leaf x) = (leaf-whole x, tt)
+leaves-whole (and a b) = all-append WholeLeaf (leaves (exprItems a)) (leaves (exprItems b)) (leaves-whole a) (leaves-whole b)
+leaves-whole (or a b) = all-append WholeLeaf (leaves (exprItems a)) (leaves (exprItems b)) (leaves-whole a) (leaves-whole b)
+leaves-whole (except a b) = all-append WholeLeaf (leaves (exprItems a)) (leaves (exprItems b)) (leaves-whole a) (leaves-whole b)
 leaves-whole always = tt
 
-expr-items-whole : (x : Expr Leaf) → WritableExpr x → WholeExpr (exprItems x)
-expr-items-whole x fits = record { items = rw (size-items x) (fits .items); bodies = leaves-whole x }
+expr-items-whole : (x : Expr Atom) → WritableExpr x → WholeExpr (exprItems x)
+expr-items-whole x fits = record { items = rw (size-items x) (fits .items); whole-leaves = leaves-whole x }
 
 -- a schema is read back from its items
 pub schema-back : (x : Schema) → WritableSchema x → schemaFrom (schemaItems x) ≡ x
@@ -140,9 +147,9 @@ schema-back x fits = λ n. record {
   subject = x .subject;
   privileged = x .privileged;
   liable = x .liable;
-  create = expr-back (x .create) (fits .create-fits .offsets) n;
-  detach = expr-back (x .detach) (fits .detach-fits .offsets) n;
-  consequent = expr-back (x .consequent) (fits .consequent-fits .offsets) n;
+  create = expr-back (x .create) (fits .create-fits .numbers) n;
+  detach = expr-back (x .detach) (fits .detach-fits .numbers) n;
+  consequent = expr-back (x .consequent) (fits .consequent-fits .numbers) n;
 }
 
 schema-items-whole : (x : Schema) → WritableSchema x → WholeSchema (schemaItems x)

@@ -14,7 +14,8 @@ use Rattle.meaning.specs.declared.Event.{Event}
 use Rattle.meaning.specs.declared.Event.the-variants.{Kind, StageOf}
 use Rattle.meaning.specs.declared.Bound.{Bound}
 use Rattle.meaning.specs.declared.Bound.the-variants.{Plain, Plus, Minus, Open}
-use Rattle.meaning.specs.declared.Leaf.{Leaf}
+use Rattle.meaning.specs.declared.Atom.{Atom}
+use Rattle.meaning.specs.declared.Atom.the-variants.{Happens, Counts}
 use Rattle.meaning.specs.Lists.{numbersFrom, anyOf}
 use Rattle.meaning.specs.Stages.{stageOf}
 use Rattle.meaning.specs.Terms.{EventKind, Expr, leaf, and, or, except, always, Schema, Terms, kindAt, schemaAt, kindOf, rank, leaves, leafEvents}
@@ -39,7 +40,7 @@ stageEvent NotAStage number = none
 unfoldable pub eventOf : ℕ → ℕ → Option Event
 eventOf form number = cond (eqb form 0) (some (Kind number)) (stageEvent (stageOf form) number)
 
--- a bound from its place in the body (item 03, signs 0 to 3)
+-- a bound from its place in the item (item 03, signs 0 to 3; item 08)
 unfoldable pub boundOf : List ℕ → ℕ → Option Bound
 boundOf s at =
     let sign = byteAt s at in
@@ -51,33 +52,44 @@ boundOf s at =
     (cond (eqb sign 3) (some Open)
     none)))
 
--- a leaf from its body (item 03)
-unfoldable pub leafOf : List ℕ → Option Leaf
-leafOf body =
-    bind (eventOf (byteAt body 0) (byteAt body 1)) λ e.
-    bind (boundOf body 2) λ l.
-    bind (boundOf body 9) λ u.
-    some (record { event = e; lower = l; upper = u })
+-- an event in a window, from the item (item 03)
+unfoldable pub happeningOf : List ℕ → Option Atom
+happeningOf item =
+    bind (eventOf (byteAt item 1) (byteAt item 2)) λ e.
+    bind (boundOf item 3) λ l.
+    bind (boundOf item 10) λ u.
+    some (Happens (record { event = e; lower = l; upper = u }))
+
+-- a count of records in a window, from the item (item 08)
+unfoldable pub countOf : List ℕ → Option Atom
+countOf item =
+    bind (boundOf item 6) λ l.
+    bind (boundOf item 13) λ u.
+    some (Counts (record { kind = byteAt item 1; threshold = numberAt 4 item 2; lower = l; upper = u }))
+
+-- a leaf from its item, by its byte (items 03 and 08)
+unfoldable pub leafOf : List ℕ → Option Atom
+leafOf item = cond (eqb (byteAt item 0) 8) (countOf item) (happeningOf item)
 
 -- stands in for a leaf whose form or sign names nothing, which is refused 3: it never occurs, since an open lower bound lets nothing in, and never
 -- fails, since an open upper one is not reached
-unfoldable pub neither : Leaf
-neither = record { event = Kind 0; lower = Open; upper = Open }
+unfoldable pub neither : Atom
+neither = Happens (record { event = Kind 0; lower = Open; upper = Open })
 
--- the leaf that a body stands for (item 03); neither, where the form of an event or a sign names nothing
-unfoldable pub leafFrom : List ℕ → Leaf
-leafFrom body = elim (leafOf body) [ none ↦ neither | some x ↦ x ]
+-- the leaf that an item stands for (items 03 and 08); neither, where the form of an event or a sign names nothing
+unfoldable pub leafFrom : List ℕ → Atom
+leafFrom item = elim (leafOf item) [ none ↦ neither | some x ↦ x ]
 
--- the expression that items stand for (items 03 to 07)
-unfoldable pub exprFrom : Expr (List ℕ) → Expr Leaf
-exprFrom (leaf body) = leaf (leafFrom body)
+-- the expression that items stand for (items 03 to 08)
+unfoldable pub exprFrom : Expr (List ℕ) → Expr Atom
+exprFrom (leaf item) = leaf (leafFrom item)
 exprFrom (and a b) = and (exprFrom a) (exprFrom b)
 exprFrom (or a b) = or (exprFrom a) (exprFrom b)
 exprFrom (except a b) = except (exprFrom a) (exprFrom b)
 exprFrom always = always
 
--- the expression of at most so many items at a place of the terms; where none is read, the leaf that neither occurs nor fails (items 03 to 07)
-unfoldable pub exprAt : List ℕ → ℕ → ℕ → Expr Leaf
+-- the expression of at most so many items at a place of the terms; where none is read, the leaf that neither occurs nor fails (items 03 to 08)
+unfoldable pub exprAt : List ℕ → ℕ → ℕ → Expr Atom
 exprAt s at items = elim (readExpr items items (drop at s)) [ none ↦ leaf neither | some found ↦ exprFrom (found .0) ]
 
 -- a schema from its items (item 02)
@@ -139,11 +151,22 @@ boundWrong terms s at =
     true)))
 
 -- refusal 3 at an item 03; a lower bound is not open
+unfoldable pub happeningWrong : Terms → List ℕ → Bool
+happeningWrong terms item =
+    eventWrong terms (byteAt item 1) (byteAt item 2)
+    || eqb (byteAt item 3) 3 || boundWrong terms item 3
+    || boundWrong terms item 10
+
+-- refusal 3 at an item 08: a declared kind, any threshold, and no bound is open
+unfoldable pub countWrong : Terms → List ℕ → Bool
+countWrong terms item =
+    leb (length (terms .kinds)) (byteAt item 1)
+    || eqb (byteAt item 6) 3 || boundWrong terms item 6
+    || eqb (byteAt item 13) 3 || boundWrong terms item 13
+
+-- refusal 3 at a leaf, by its byte
 unfoldable pub leafWrong : Terms → List ℕ → Bool
-leafWrong terms body =
-    eventWrong terms (byteAt body 0) (byteAt body 1)
-    || eqb (byteAt body 2) 3 || boundWrong terms body 2
-    || boundWrong terms body 9
+leafWrong terms item = cond (eqb (byteAt item 0) 8) (countWrong terms item) (happeningWrong terms item)
 
 -- refusal 3 at a schema, its leaves included
 unfoldable pub schemaWrong : Terms → SchemaItems → Bool
@@ -172,7 +195,7 @@ sharesNone terms subject e =
     not (anyOf (bothCarry (kindAt terms (kindOf terms e) .mask) (kindAt terms subject .mask)) (numbersFrom 0 attributes))
 
 -- whether some event of an expression, in a leaf or in a bound, passes a test
-unfoldable pub anyEvent : (Event → Bool) → Expr Leaf → Bool
+unfoldable pub anyEvent : (Event → Bool) → Expr Atom → Bool
 anyEvent p x = anyOf (λ l. anyOf p (leafEvents l)) (leaves x)
 
 -- refusal 4 at the schema with a number: some clause cites a stage that does not rank below it

@@ -10,7 +10,7 @@ use Rattle.meaning.specs.Lists.{isEmpty, All}
 use Rattle.meaning.specs.Terms.{Expr, leaf, and, or, except, always, leaves}
 use Rattle.format.specs.Bytes.{Reader, orElse, many, item}
 
--- a schema as its items' bodies (Grammar)
+-- a schema as the body of its item 02 and its expressions, each leaf an item with its byte (Grammar)
 pub record SchemaItems : Type 0 where
   -- the body of the item 02
   pub head : List ℕ
@@ -45,16 +45,21 @@ readBoth reader items join s =
     bind (reader (items - size (a .0)) (a .1)) λ b.
     some (join (a .0) (b .0), b .1)
 
--- an expression of at most so many items, nested no deeper than n (items 03 to 07)
+-- a leaf: an item with its byte (items 03 and 08)
+unfoldable pub readLeaf : ℕ → ℕ → Reader (Expr (List ℕ))
+readLeaf kind body s = bind (item kind body s) λ x. some (leaf (kind ∷ x .0), x .1)
+
+-- an expression of at most so many items, nested no deeper than n (items 03 to 08)
 unfoldable pub readExpr : ℕ → ℕ → Reader (Expr (List ℕ))
 readExpr zero items s = none
 readExpr (suc n) zero s = none
 readExpr (suc n) (suc items) s =
-    orElse (bind (item 3 16 s) λ x. some (leaf (x .0), x .1))
+    orElse (readLeaf 3 16 s)
     (orElse (bind (item 4 0 s) λ x. readBoth (readExpr n) items and (x .1))
     (orElse (bind (item 5 0 s) λ x. readBoth (readExpr n) items or (x .1))
     (orElse (bind (item 6 0 s) λ x. readBoth (readExpr n) items except (x .1))
-    (bind (item 7 0 s) λ x. some (always, x .1)))))
+    (orElse (bind (item 7 0 s) λ x. some (always, x .1))
+    (readLeaf 8 19 s)))))
 
 -- the most items 01 (Grammar)
 unfoldable pub kindsLimit : ℕ
@@ -92,9 +97,9 @@ fileOf s =
 unfoldable pub breaksGrammar : TermsFile → Bool
 breaksGrammar file = isEmpty (file .kinds) || isEmpty (file .schemas) || not (isEmpty (file .rest))
 
--- an expression in bytes (items 03 to 07)
+-- an expression in bytes (items 03 to 08)
 unfoldable pub exprBytes : Expr (List ℕ) → List ℕ
-exprBytes (leaf body) = 3 ∷ body
+exprBytes (leaf item) = item
 exprBytes (and a b) = 4 ∷ (exprBytes a ++ exprBytes b)
 exprBytes (or a b) = 5 ∷ (exprBytes a ++ exprBytes b)
 exprBytes (except a b) = 6 ∷ (exprBytes a ++ exprBytes b)
@@ -108,12 +113,17 @@ schemaBytes x = 2 ∷ (x .head ++ (exprBytes (x .create) ++ (exprBytes (x .detac
 unfoldable pub termsBytes : List (List ℕ) → List SchemaItems → List ℕ
 termsBytes kinds schemas = flatMap (λ body. 1 ∷ body) kinds ++ flatMap schemaBytes schemas
 
--- an expression within the count, with whole leaves (Grammar, item 03)
+-- a leaf's item with its whole body (items 03 and 08)
+pub data WholeLeaf : List ℕ → Type 0 where
+  item-03 : (body : List ℕ) → length body ≡ 16 → WholeLeaf (3 ∷ body)
+  item-08 : (body : List ℕ) → length body ≡ 19 → WholeLeaf (8 ∷ body)
+
+-- an expression within the count, with whole leaves (Grammar)
 pub record WholeExpr (x : Expr (List ℕ)) : Type 0 where
   -- within the count
   pub items : size x ≤ exprLimit
-  -- each leaf's body
-  pub bodies : All (λ body. length body ≡ 16) (leaves x)
+  -- each leaf
+  pub whole-leaves : All WholeLeaf (leaves x)
 
 -- a schema with a whole head and three whole expressions (Grammar, item 02)
 pub record WholeSchema (x : SchemaItems) : Type 0 where
