@@ -3,13 +3,13 @@
 --     first-unread, second-unread     the same where an operand of a connective is not read
 --     both-read, operands-as          the operands of a connective
 -- Assumes nothing.
-use Prim.Native.Nat.{ℕ, _+_, _-_, _≤_, _<_}
+use Prim.Native.Nat.{ℕ, suc, _+_, _-_, _≤_, _<_}
 use native.Mathlib.Omega.{arith}
 use mathlib.Core.Path.{_≡_, refl, sym, _∙_}
 use mathlib.Core.List.{List}
 use mathlib.Core.Option.{Option, none, some}
 use lib.ListN.{length, drop}
-use Rattle.meaning.specs.declared.Leaf.{Leaf}
+use Rattle.meaning.specs.declared.Atom.{Atom}
 use Rattle.meaning.specs.Terms.{Expr, leaf}
 use Rattle.format.specs.Bytes.{byteAt}
 use Rattle.format.specs.Grammar.{size, readExpr}
@@ -17,7 +17,7 @@ use Rattle.format.specs.Fields.{neither, exprAt}
 use Rattle.format.proofs.ReaderLaws.{none-some, found-eq}
 use Rattle.format.proofs.GrammarLaws.{E, size-positive}
 use Rattle.format.proofs.PlaceLaws.{item-short}
-use Rattle.format.proofs.ExprLaws.{Joining, and-joins, or-joins, except-joins, joins, Parts, read-none, join-is, expr-some, expr-none, expr-join}
+use Rattle.format.proofs.ExprLaws.{Joining, and-joins, or-joins, except-joins, joins, Parts, LeafItem, read-cut, join-is, expr-some, expr-none, expr-join}
 use Rattle.grammar.specs.declared.ExpressionReading.{ExpressionReading}
 use Rattle.grammar.specs.declared.ExpressionReading.the-variants.{To, Nothing}
 use Rattle.grammar.specs.Found.{FoundExpr}
@@ -36,12 +36,12 @@ module _ (s : List ℕ) (at items : ℕ) where
   no-items e = expr-none items s at items (omega arith) (expr-no-items items s at e items (omega arith))
 
   -- no kind byte of an expression
-  pub no-kind : (3 ≤ byteAt s at → byteAt s at ≤ 7 → ⊥) → exprAt s at items ≡ leaf neither
+  pub no-kind : (3 ≤ byteAt s at → byteAt s at ≤ 8 → ⊥) → exprAt s at items ≡ leaf neither
   no-kind out = expr-none items s at items (omega arith) (expr-no-kind items s at out items (omega arith))
 
   -- a leaf that is cut off
-  pub no-body : byteAt s at ≡ 3 → length s < at + 17 → exprAt s at items ≡ leaf neither
-  no-body e l = expr-none items s at items (omega arith) (read-none items items s at (item-short 3 16 s at (omega arith)) (λ low high. omega arith))
+  pub no-body : {kind n : ℕ} → LeafItem kind n → byteAt s at ≡ kind → length s < at + suc n → exprAt s at items ≡ leaf neither
+  no-body {kind} {n} is e l = expr-none items s at items (omega arith) (read-cut is items items s at e (item-short kind n s at (omega arith)))
 
   -- a connective that cannot have been read
   unread : (low : 4 ≤ byteAt s at) (high : byteAt s at ≤ 6)
@@ -78,7 +78,7 @@ module _ (s : List ℕ) (at items : ℕ) where
           none-some (sym missed ∙ (rw (count, same .1) at (p .second)))
 
       -- a connective of the two
-      joined-at : {kind : ℕ} {join : E → E → E} {joined : Expr Leaf → Expr Leaf → Expr Leaf} → Joining kind join joined
+      joined-at : {kind : ℕ} {join : E → E → E} {joined : Expr Atom → Expr Atom → Expr Atom} → Joining kind join joined
           → (end behind : ℕ) → FoundExpr left left s second (To end behind) → byteAt s at ≡ kind → JoinedAt joined s at items second left
       joined-at is end behind b k =
           let a = before-second in

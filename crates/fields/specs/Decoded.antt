@@ -6,7 +6,7 @@ use mathlib.Core.Option.{Option, none, some}
 use lib.ListN.{length}
 use Rattle.meaning.specs.declared.Event.{Event}
 use Rattle.meaning.specs.declared.Bound.{Bound}
-use Rattle.meaning.specs.declared.Leaf.{Leaf}
+use Rattle.meaning.specs.declared.Atom.{Atom}
 use Rattle.meaning.specs.Terms.{Expr, leaf, and, or, except, always}
 use Rattle.format.specs.Bytes.{byteAt}
 use Rattle.format.specs.Fields.{neither, exprAt}
@@ -30,7 +30,7 @@ boundIn (boundForm.Is b) = some b
 boundIn boundForm.NotABound = none
 
 -- a connective at a place: its first operand stands after its byte, its second one at another place, with so many items left for it
-abbrev pub JoinedAt : (Expr Leaf → Expr Leaf → Expr Leaf) → List ℕ → ℕ → ℕ → ℕ → ℕ → Type 0
+abbrev pub JoinedAt : (Expr Atom → Expr Atom → Expr Atom) → List ℕ → ℕ → ℕ → ℕ → ℕ → Type 0
 JoinedAt join s at items second left =
     (exprAt s at items ≡ join (exprAt s (at + 1) (items - 1)) (exprAt s second left)) × (at < length s) × (left < items)
 

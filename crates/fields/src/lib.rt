@@ -1,6 +1,8 @@
-// What the bodies of items hold: kinds, events, bounds and leaves at a place of terms, and refusal 3 at each of them.
+// What the bodies of items hold: kinds, events, bounds, leaves and counts at a place of terms, and refusal 3 at each of them.
 use grammar::ALWAYS;
 use grammar::AND;
+use grammar::COUNT;
+use grammar::COUNT_BODY;
 use grammar::EXCEPT;
 use grammar::ExpressionReading;
 use grammar::LEAF;
@@ -10,7 +12,9 @@ use grammar::byte_at;
 use grammar::read_expression;
 use grammar::u16_at;
 use grammar::u32_at;
+use meaning::Atom;
 use meaning::Bound;
+use meaning::CountLeaf;
 use meaning::Event;
 use meaning::Leaf;
 use meaning::NormType;
@@ -21,6 +25,7 @@ ghost use Prim.Native.Nat.{_+_, _*_, _<_, _≤_};
 ghost use lib.ListN.{length, take, drop};
 ghost use Rattle.meaning.specs.Terms.{Terms, kindAt};
 ghost use Rattle.meaning.specs.Log.{carries};
+ghost use Rattle.format.specs.Bytes.{byteAt};
 ghost use Rattle.format.specs.Grammar.{fileOf};
 ghost use Rattle.format.specs.Fields.{normTypeOf, eventOf, boundOf, neither, leafFrom, kindWrong, headWrong, eventWrong, boundWrong, leafWrong, termsOf};
 ghost use Rattle.fields.specs.Decoded.{eventIn, boundIn, OperandsAt, ExpressionAt};
@@ -64,10 +69,10 @@ pub enum BoundForm {
     NotABound,
 }
 
-// What an expression at a place is: a leaf; a connective, with the place of its second operand and how many items that one may have; always;
+// What an expression at a place is: a leaf or a count; a connective, with the place of its second operand and how many items that one may have; always;
 // or nothing that can be read.
 pub enum Expression {
-    Leaf(Leaf),
+    Leaf(Atom),
     And(usize, usize),
     Or(usize, usize),
     Except(usize, usize),
@@ -155,35 +160,56 @@ fn bound_at(terms: &[u8], at: usize) -> BoundForm
 }
 
 // A leaf that neither occurs nor fails: what stands for one that cannot be decoded.
-fn no_leaf() -> Leaf
+fn no_leaf() -> Atom
     ensures { λ r. ⌜ r ≡ neither ⌝ }
 {
-    Leaf {
+    Atom::Happens(Leaf {
         event: Event::Kind(0),
         lower: Bound::Open,
         upper: Bound::Open,
-    }
+    })
 }
 
-// The leaf whose body starts at a place.
-pub fn leaf_at(terms: &[u8], at: usize) -> Leaf
-    requires { ⌜ at + 16 ≤ length (now terms) ⌝ }
-    ensures { λ r. ⌜ r ≡ leafFrom (take 16 (drop at (now (terms .entry)))) ⌝ }
+// The leaf whose item 03 starts at a place.
+pub fn leaf_at(terms: &[u8], at: usize) -> Atom
+    requires { ⌜ (byteAt (now terms) at ≡ 3) × (at + 17 ≤ length (now terms)) ⌝ }
+    ensures { λ r. ⌜ r ≡ leafFrom (take 17 (drop at (now (terms .entry)))) ⌝ }
 {
-    let EventForm::Is(event) = event_of(terms[at], terms[at + 1]) else {
+    let EventForm::Is(event) = event_of(terms[at + 1], terms[at + 2]) else {
         return no_leaf();
     };
-    let BoundForm::Is(lower) = bound_at(terms, at + 2) else {
+    let BoundForm::Is(lower) = bound_at(terms, at + 3) else {
         return no_leaf();
     };
-    let BoundForm::Is(upper) = bound_at(terms, at + 9) else {
+    let BoundForm::Is(upper) = bound_at(terms, at + 10) else {
         return no_leaf();
     };
-    Leaf {
+    Atom::Happens(Leaf {
         event,
         lower,
         upper,
-    }
+    })
+}
+
+// The count whose item 08 starts at a place.
+pub fn count_at(terms: &[u8], at: usize) -> Atom
+    requires { ⌜ (byteAt (now terms) at ≡ 8) × (at + 20 ≤ length (now terms)) ⌝ }
+    ensures { λ r. ⌜ r ≡ leafFrom (take 20 (drop at (now (terms .entry)))) ⌝ }
+{
+    let kind = terms[at + 1];
+    let threshold = u32_at(terms, at + 2);
+    let BoundForm::Is(lower) = bound_at(terms, at + 6) else {
+        return no_leaf();
+    };
+    let BoundForm::Is(upper) = bound_at(terms, at + 13) else {
+        return no_leaf();
+    };
+    Atom::Counts(CountLeaf {
+        kind,
+        threshold,
+        lower,
+        upper,
+    })
 }
 
 // The operands of the connective at a place: both are read.
@@ -212,7 +238,7 @@ pub fn expression_at(terms: &[u8], at: usize, items: usize) -> Expression
             if terms.len() - at <= LEAF_BODY {
                 return Expression::Nothing;
             }
-            Expression::Leaf(leaf_at(terms, at + 1))
+            Expression::Leaf(leaf_at(terms, at))
         }
         AND => {
             let Operands::Second(second, left) = read_operands(terms, at, items) else {
@@ -233,6 +259,12 @@ pub fn expression_at(terms: &[u8], at: usize, items: usize) -> Expression
             Expression::Except(second, left)
         }
         ALWAYS => Expression::Always,
+        COUNT => {
+            if terms.len() - at <= COUNT_BODY {
+                return Expression::Nothing;
+            }
+            Expression::Leaf(count_at(terms, at))
+        }
         _ => Expression::Nothing,
     }
 }
@@ -338,19 +370,40 @@ fn bound_wrong(terms: &[u8], kinds: usize, at: usize) -> bool
     }
 }
 
-// Refusal 3 at the leaf whose body starts at a place; its lower bound is not open.
+// Refusal 3 at the leaf whose item 03 starts at a place; its lower bound is not open.
 pub fn leaf_wrong(terms: &[u8], kinds: usize, at: usize) -> bool
-    requires { ⌜ at + 16 ≤ length (now terms) ⌝ }
-    ensures { λ r. ⌜ ((t : Terms) → kinds ≡ length (t .kinds) → r ≡ leafWrong t (take 16 (drop at (now (terms .entry))))) ⌝ }
+    requires { ⌜ (byteAt (now terms) at ≡ 3) × (at + 17 ≤ length (now terms)) ⌝ }
+    ensures { λ r. ⌜ ((t : Terms) → kinds ≡ length (t .kinds) → r ≡ leafWrong t (take 17 (drop at (now (terms .entry))))) ⌝ }
 {
-    if event_wrong(kinds, terms[at], terms[at + 1]) {
+    if event_wrong(kinds, terms[at + 1], terms[at + 2]) {
         return true;
     }
-    if terms[at + 2] == OPEN {
+    if terms[at + 3] == OPEN {
         return true;
     }
-    if bound_wrong(terms, kinds, at + 2) {
+    if bound_wrong(terms, kinds, at + 3) {
         return true;
     }
-    bound_wrong(terms, kinds, at + 9)
+    bound_wrong(terms, kinds, at + 10)
+}
+
+// Refusal 3 at the count whose item 08 starts at a place; any threshold is in range, and no bound is open.
+pub fn count_wrong(terms: &[u8], kinds: usize, at: usize) -> bool
+    requires { ⌜ (byteAt (now terms) at ≡ 8) × (at + 20 ≤ length (now terms)) ⌝ }
+    ensures { λ r. ⌜ ((t : Terms) → kinds ≡ length (t .kinds) → r ≡ leafWrong t (take 20 (drop at (now (terms .entry))))) ⌝ }
+{
+    let kind = terms[at + 1];
+    if kinds <= kind as usize {
+        return true;
+    }
+    if terms[at + 6] == OPEN {
+        return true;
+    }
+    if bound_wrong(terms, kinds, at + 6) {
+        return true;
+    }
+    if terms[at + 13] == OPEN {
+        return true;
+    }
+    bound_wrong(terms, kinds, at + 13)
 }

@@ -2,7 +2,7 @@
 --     leaves-from, any-event          its leaves, and a test of its events, leaf by leaf of its items
 --     expr-deep, expr-depth           depth as much as items is enough
 --     Joining, and-joins, …, joins    the connectives, in items and in meaning
---     LeafItem, leaf-item, count-item   the two kinds of leaf, how each is read
+--     LeafItem, leaf-item, count-item, reads-leaf   the two kinds of leaf, how each is read
 --     read-leaf, read-cut, read-always, read-join, read-none   what is read at a place, by the byte there
 --     read-inside, leaf-is, always-is, join-is     the way back: what was read there, by the byte
 --     expr-some, expr-none, expr-clause   what stands at a place, by what is read there
@@ -126,7 +126,7 @@ count-item = record { reads = λ m items u. refl; some-byte = omega arith }
 
 module _ {kind n : ℕ} (is : LeafItem kind n) (m items : ℕ) (s : List ℕ) (at : ℕ) (here : byteAt s at ≡ kind) where
   -- what is read at its byte
-  reads-leaf : readExpr (suc m) (suc items) (drop at s) ≡ readLeaf kind n (drop at s)
+  pub reads-leaf : readExpr (suc m) (suc items) (drop at s) ≡ readLeaf kind n (drop at s)
   reads-leaf =
       let front : drop at s ≡ kind ∷ drop (at + 1) s = drop-here s at (byte-inside s at (omega (arith, is .some-byte))) ∙ ap (λ (b : ℕ). b ∷ drop (at + 1) s) here in
       rw front (is .reads m items (drop (at + 1) s))

@@ -15,7 +15,7 @@ use lib.Seq.{drop-drop, take-at, getD-at, getD-set-same, getD-set-other}
 use borrow.Author.Tests.{ltb-true, ltb-false}
 use Rattle.meaning.specs.Terms.{leaf, always}
 use Rattle.format.specs.Bytes.{byteAt, item}
-use Rattle.format.specs.Grammar.{SchemaItems, size, readBoth, readExpr, readClause, readSchema}
+use Rattle.format.specs.Grammar.{SchemaItems, size, readBoth, readLeaf, readExpr, readClause, readSchema}
 use Rattle.grammar.specs.declared.Reading.{Reading}
 use Rattle.grammar.specs.declared.Reading.the-variants as reading
 use Rattle.grammar.specs.declared.ExpressionReading.{ExpressionReading}
@@ -23,8 +23,8 @@ use Rattle.grammar.specs.declared.ExpressionReading.the-variants as expr
 use Rattle.grammar.specs.Found.{Found, FoundExpr}
 use Rattle.grammar.specs.Places.{ClausesAt, noItems, Starts}
 use Rattle.format.proofs.ReaderLaws.{item-sound}
-use Rattle.format.proofs.PlaceLaws.{drop-here, byte-inside, item-other}
-use Rattle.format.proofs.ExprLaws.{Joins, joins, read-always, read-none}
+use Rattle.format.proofs.PlaceLaws.{drop-here, byte-inside}
+use Rattle.format.proofs.ExprLaws.{Joins, joins, LeafItem, reads-leaf, read-cut, read-always, read-none}
 
 -- what is read at a connective's byte
 join-reads : (n items : ℕ) (s : List ℕ) (at : ℕ) (low : 4 ≤ byteAt s at) (high : byteAt s at ≤ 6)
@@ -63,17 +63,20 @@ module _ (items : ℕ) (s : List ℕ) (at : ℕ) where
   expr-no-items e n h = rw e (elim n [ zero ↦ refl | suc n ↦ refl ])
 
   -- no kind byte of an expression
-  pub expr-no-kind : (3 ≤ byteAt s at → byteAt s at ≤ 7 → ⊥) → Reads items s at expression.Nothing
-  expr-no-kind out n h = read-none n items s at (item-other 3 16 s at (λ e. out (omega arith) (omega arith))) (λ low high. out (omega arith) high)
+  pub expr-no-kind : (3 ≤ byteAt s at → byteAt s at ≤ 8 → ⊥) → Reads items s at expression.Nothing
+  expr-no-kind out n h = read-none n items s at out
 
-  -- a leaf that is cut off
-  pub expr-no-leaf : {r : Reading} → byteAt s at ≡ 3 → Found (item 3 16) s at r → r ≡ reading.Nothing → Reads items s at expression.Nothing
-  expr-no-leaf b found e n h = read-none n items s at (rw e at found) (λ low high. omega arith)
+  module _ {kind body : ℕ} (is : LeafItem kind body) {r : Reading} (b : byteAt s at ≡ kind) (found : Found (item kind body) s at r) where
+    -- a leaf that is cut off
+    pub expr-no-leaf : r ≡ reading.Nothing → Reads items s at expression.Nothing
+    expr-no-leaf e n h = read-cut is n items s at b (rw e at found)
 
-  -- a leaf
-  pub expr-leaf : {r : Reading} {end : ℕ} → 1 ≤ items → Found (item 3 16) s at r → r ≡ reading.To end → Reads items s at (expression.To end (items - 1))
-  unfolding readExpr bind size
-  expr-leaf {end} p found e = let f = rw e at found in one-taken (expression.To end (items - 1)) p (λ n h. (leaf (f .0), rw (f .1), omega arith, f .2, f .3))
+    -- a leaf
+    pub expr-leaf : {end : ℕ} → 1 ≤ items → r ≡ reading.To end → Reads items s at (expression.To end (items - 1))
+    unfolding readLeaf bind size
+    expr-leaf {end} p e =
+        let f = rw e at found in
+        one-taken (expression.To end (items - 1)) p (λ n h. (leaf (kind ∷ f .0), rw (reads-leaf is n (items - 1) s at b, f .1), omega arith, f .2, f .3))
 
   -- always
   pub expr-always : 1 ≤ items → byteAt s at ≡ 7 → Reads items s at (expression.To (at + 1) (items - 1))

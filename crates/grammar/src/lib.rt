@@ -22,8 +22,12 @@ pub const EXCEPT: u8 = 6;
 
 pub const ALWAYS: u8 = 7;
 
-// How many bytes the body of a leaf has.
+pub const COUNT: u8 = 8;
+
+// How many bytes the body of a leaf has, and that of a count.
 pub const LEAF_BODY: usize = 16;
+
+pub const COUNT_BODY: usize = 19;
 
 // The most items of an expression, event kinds and schemas.
 pub const EXPRESSION_LIMIT: usize = 31;
@@ -115,7 +119,7 @@ fn read_item(s: &[u8], at: usize, kind: u8, body: usize) -> Reading
     Reading::To(at + 1 + body)
 }
 
-// An expression of at most so many items: a leaf, always, or a connective and its two operands.
+// An expression of at most so many items: a leaf, a count, always, or a connective and its two operands.
 pub fn read_expression(s: &[u8], at: usize, items: usize) -> ExpressionReading
     ensures { λ r. ⌜ ((n : ℕ) → items ≤ n → FoundExpr n items (now (s .entry)) at r) ⌝ }
 {
@@ -136,6 +140,12 @@ pub fn read_expression(s: &[u8], at: usize, items: usize) -> ExpressionReading
             read_expression(s, middle, left)
         }
         ALWAYS => ExpressionReading::To(at + 1, items - 1),
+        COUNT => {
+            let Reading::To(end) = read_item(s, at, COUNT, COUNT_BODY) else {
+                return ExpressionReading::Nothing;
+            };
+            ExpressionReading::To(end, items - 1)
+        }
         _ => ExpressionReading::Nothing,
     }
 }

@@ -280,7 +280,8 @@ countCases =
     ∷ case (detaching (moreThan 0 1 (Minus F 15) (Plain 10)) (eAt 6 ++ fAt 20)) (occursAt 20)
     ∷ case (detaching (moreThan 0 1 (Plain 0) (Minus F 3)) (eAt 4 ++ fAt 20)) (occursAt 20)
     ∷ case (detaching (moreThan 0 1 (Plain 0) (Minus F 3)) (fAt 20)) (failsAt 20)
-    -- an empty window
+    -- an empty window; the lower bound's value does not delay it
+    ∷ case (detaching (moreThan 0 1 (Plain 20) (Plain 10)) (eAt 5)) (failsAt 10)
     ∷ case (detaching (moreThan 0 1 (Plain 5) (Plain 5)) (eAt 5)) (failsAt 5)
     -- records of another subject do not count; the subject counts itself
     ∷ case (detaching (moreThan 0 1 (Plain 0) (Plain 10)) (event 1 5 (8 ∷ 5 ∷ []))) (failsAt 10)

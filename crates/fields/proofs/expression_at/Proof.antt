@@ -2,7 +2,7 @@
 use native.Mathlib.Omega.{arith}
 use borrow.Author.Needs.{needs}
 use Rattle.format.proofs.PlaceLaws.{byte-inside}
-use Rattle.format.proofs.ExprLaws.{expr-leaf, expr-always}
+use Rattle.format.proofs.ExprLaws.{leaf-item, count-item, expr-leaf, expr-always}
 use Rattle.fields.proofs.Expressions.{no-items, no-kind, no-body, operands-as}
 use Rattle.fields.proofs.expression_at.Statement.{statement}
 use Rattle.fields.proofs.expression_at.Tie as tie
@@ -18,7 +18,7 @@ sub-if2 c =
 returns-2 : tie.Need-returns-2
 returns-2 c =
     let a = c .before .before .before .before .before .args in
-    no-body (a .terms .now) (a .at) (a .items) (omega arith) (omega arith)
+    no-body (a .terms .now) (a .at) (a .items) leaf-item (omega arith) (omega arith)
 
 asks-and : tie.Need-read-operands-requires
 asks-and c κs =
@@ -50,33 +50,48 @@ returns-5 c =
     let a = c .before .before .before .before .before .before .before .args in
     operands-as (a .terms .now) (a .at) (a .items) (c .before .before .read-operands3 .ensures) _ (c .enum-told3 .given .1) (omega arith) (omega arith)
 
+sub-if3 : tie.Need-sub-if3
+sub-if3 c =
+    let a = c .before .before .before .before .args in
+    omega (arith, byte-inside (a .terms .now) (a .at) (omega arith))
+
 returns-6 : tie.Need-returns-6
 returns-6 c =
-    let a = c .before .before .before .before .before .before .args in
-    rw (c .leaf-at .ensures) (expr-leaf (a .terms .now) (a .at) (a .items) (omega arith) (omega arith) (omega arith))
+    let a = c .before .before .before .before .before .args in
+    no-body (a .terms .now) (a .at) (a .items) count-item (omega arith) (omega arith)
 
 returns-7 : tie.Need-returns-7
 returns-7 c =
-    let a = c .before .before .before .before .before .before .before .before .args in
-    operands-as (a .terms .now) (a .at) (a .items) (c .before .before .before .read-operands .ensures) _ (c .before .second .given .1) .0 (omega arith)
+    let a = c .before .before .before .before .before .before .args in
+    rw (c .leaf-at .ensures) (expr-leaf leaf-item (a .terms .now) (a .at) (a .items) (omega arith) (omega arith) (omega arith))
 
 returns-8 : tie.Need-returns-8
 returns-8 c =
     let a = c .before .before .before .before .before .before .before .before .args in
-    operands-as (a .terms .now) (a .at) (a .items) (c .before .before .before .read-operands2 .ensures) _ (c .before .second2 .given .1) .1 (omega arith)
+    operands-as (a .terms .now) (a .at) (a .items) (c .before .before .before .read-operands .ensures) _ (c .before .second .given .1) .0 (omega arith)
 
 returns-9 : tie.Need-returns-9
 returns-9 c =
     let a = c .before .before .before .before .before .before .before .before .args in
-    operands-as (a .terms .now) (a .at) (a .items) (c .before .before .before .read-operands3 .ensures) _ (c .before .second3 .given .1) .2 (omega arith)
+    operands-as (a .terms .now) (a .at) (a .items) (c .before .before .before .read-operands2 .ensures) _ (c .before .second2 .given .1) .1 (omega arith)
 
 returns-10 : tie.Need-returns-10
 returns-10 c =
-    let a = c .before .before .before .before .args in
-    expr-always (a .terms .now) (a .at) (a .items) (omega arith) (omega arith) (byte-inside (a .terms .now) (a .at) (omega arith))
+    let a = c .before .before .before .before .before .before .before .before .args in
+    operands-as (a .terms .now) (a .at) (a .items) (c .before .before .before .read-operands3 .ensures) _ (c .before .second3 .given .1) .2 (omega arith)
 
 returns-11 : tie.Need-returns-11
 returns-11 c =
+    let a = c .before .before .before .before .args in
+    expr-always (a .terms .now) (a .at) (a .items) (omega arith) (omega arith) (byte-inside (a .terms .now) (a .at) (omega arith))
+
+returns-12 : tie.Need-returns-12
+returns-12 c =
+    let a = c .before .before .before .before .before .before .args in
+    rw (c .count-at .ensures) (expr-leaf count-item (a .terms .now) (a .at) (a .items) (omega arith) (omega arith) (omega arith))
+
+returns-13 : tie.Need-returns-13
+returns-13 c =
     let a = c .before .before .before .before .args in
     no-kind (a .terms .now) (a .at) (a .items) (λ low high. omega arith)
 
@@ -88,8 +103,7 @@ expression-at-spec =
     (λ c κs. search needs)
     sub-if2
     returns-2
-    (λ c. search needs)
-    (λ c κs. search needs)
+    (λ c κs. (omega arith, omega arith))
     asks-and
     (λ c. search needs)
     (λ c. search needs)
@@ -102,9 +116,13 @@ expression-at-spec =
     (λ c. search needs)
     (λ c. search needs)
     returns-5
+    sub-if3
     returns-6
+    (λ c κs. (omega arith, omega arith))
     returns-7
     returns-8
     returns-9
     returns-10
-    returns-11)
+    returns-11
+    returns-12
+    returns-13)

@@ -7,14 +7,14 @@ use Rattle.fields.proofs.leaf_at.Tie as tie
 
 returns : tie.Need-returns
 unfolding byteAt
-returns c = let e = c .before .before .before in rw (leaf-here, ← e .event-of .ensures, c .before .enum-told .given .1, c .no-leaf .ensures)
+returns c = let e = c .before .before .before in rw (leaf-here _ _ (e .before .before .before .before .pre .0), ← e .event-of .ensures, c .before .enum-told .given .1, c .no-leaf .ensures)
 
 returns-2 : tie.Need-returns-2
 unfolding byteAt
 returns-2 c =
     let l = c .before .before .before in
     let e = l .before .before in
-    rw (leaf-here, ← e .before .before .event-of .ensures, e .event .given .1, ← l .bound-at .ensures, c .before .enum-told2 .given .1, c .no-leaf2 .ensures)
+    rw (leaf-here _ _ (e .before .before .before .before .before .before .pre .0), ← e .before .before .event-of .ensures, e .event .given .1, ← l .bound-at .ensures, c .before .enum-told2 .given .1, c .no-leaf2 .ensures)
 
 returns-3 : tie.Need-returns-3
 unfolding byteAt
@@ -23,7 +23,7 @@ returns-3 c =
     let l = u .before .before in
     let e = l .before .before .before .before in
     rw (
-      leaf-here,
+      leaf-here _ _ (e .before .before .before .before .before .before .pre .0),
       ← e .before .before .event-of .ensures,
       e .event .given .1,
       ← l .before .before .bound-at .ensures,
@@ -40,7 +40,7 @@ returns-4 c =
     let l = u .before .before .before .before in
     let e = l .before .before .before .before in
     rw (
-      leaf-here,
+      leaf-here _ _ (e .before .before .before .before .before .before .pre .0),
       ← e .before .before .event-of .ensures,
       e .event .given .1,
       ← l .before .before .bound-at .ensures,
@@ -53,6 +53,7 @@ pub leaf-at-spec : {M : Type 1} → statement M
 leaf-at-spec =
     tie.close
     (tie.spec
+    (λ c. search needs)
     (λ c. search needs)
     (λ c. search needs)
     (λ c. search needs)
