@@ -5,7 +5,7 @@
 --     first-found, second-walks             at a connective
 --     first-falls                           fewer items are left for the second operand
 -- Assumes nothing.
-use Prim.Native.Nat.{ℕ, _+_, _-_, _≤_, _<_}
+use Prim.Native.Nat.{ℕ, suc, _+_, _-_, _≤_, _<_}
 use native.Mathlib.Omega.{arith}
 use mathlib.Core.Path.{_≡_, refl, ap, _∙_}
 use mathlib.Core.Bool.{Bool, true, false, _||_}
@@ -19,7 +19,7 @@ use Rattle.format.specs.Grammar.{size, readExpr}
 use Rattle.format.specs.Fields.{termsOf}
 use Rattle.meaning.proofs.ListLaws.{any-append}
 use Rattle.format.proofs.GrammarLaws.{E, Connective, size-positive, expr-read}
-use Rattle.format.proofs.ExprLaws.{Joins, joins, Parts, read-inside, leaf-is, always-is, join-is}
+use Rattle.format.proofs.ExprLaws.{Joins, joins, Parts, LeafItem, read-inside, leaf-is, always-is, join-is}
 use Rattle.grammar.specs.Found.{StandsExpr}
 use Rattle.terms.specs.declared.Question.{Question}
 use Rattle.terms.specs.declared.Walked.{Walked}
@@ -37,29 +37,30 @@ module _ (s : List ℕ) (at items : ℕ) (w : StandsExpr s at items) where
   stands-here = (read-inside items items s at (w .0) (w .1) (w .2), omega (arith, expr-read items items (drop at s) (w .0) (w .1) (w .2) .1, size-positive (w .0)))
 
   -- a leaf has its body
-  pub stands-leaf : byteAt s at ≡ 3 → at + 17 ≤ length s
-  stands-leaf e = leaf-is items items s at (w .0) (w .1) (w .2) e .2
+  pub stands-leaf : {kind n : ℕ} → LeafItem kind n → byteAt s at ≡ kind → at + suc n ≤ length s
+  stands-leaf is e = leaf-is items items s at (w .0) (w .1) (w .2) is e .2
 
 module _ (s : List ℕ) (q : Question) (at items : ℕ) where
-  -- a leaf that has it
-  pub leaf-found : {b : Bool} → byteAt s at ≡ 3 → b ≡ askedOfLeaf (termsOf s) q (take 16 (drop (at + 1) s)) → b ≡ true → Walks s q at items Found
-  unfolding clauseHas leaves anyOf
-  leaf-found e h b x t found = rw (leaf-is items items s at x t found e .0, ← h, b)
+  module _ {kind n : ℕ} (is : LeafItem kind n) {b : Bool} (e : byteAt s at ≡ kind) (h : b ≡ askedOfLeaf (termsOf s) q (take (suc n) (drop at s))) where
+    -- a leaf that has it
+    pub leaf-found : b ≡ true → Walks s q at items Found
+    unfolding clauseHas leaves anyOf
+    leaf-found b x t found = rw (leaf-is items items s at x t found is e .0, ← h, b)
 
-  -- a leaf that has it not
-  pub leaf-past : {b : Bool} → byteAt s at ≡ 3 → b ≡ askedOfLeaf (termsOf s) q (take 16 (drop (at + 1) s)) → b ≡ false → Walks s q at items (To (at + 1 + 16) (items - 1))
-  unfolding clauseHas leaves anyOf size
-  leaf-past e h b x t found =
-      let l = leaf-is items items s at x t found e in
-      let one : size x ≡ 1 = ap size (l .0) in
-      let end : at + 17 ≡ at + 1 + 16 = omega arith in
-      (rw (l .0, ← h, b), rw (← end) (l .1), omega arith, omega (arith, expr-read items items (drop at s) x t found .1))
+    -- a leaf that has it not
+    pub leaf-past : b ≡ false → Walks s q at items (To (at + 1 + n) (items - 1))
+    unfolding clauseHas leaves anyOf size
+    leaf-past b x t found =
+        let l = leaf-is items items s at x t found is e in
+        let one : size x ≡ 1 = ap size (l .0) in
+        let end : at + suc n ≡ at + 1 + n = omega arith in
+        (rw (l .0, ← h, b), rw (← end) (l .1), omega arith, omega (arith, expr-read items items (drop at s) x t found .1))
 
   -- always
-  pub always-past : (3 ≤ byteAt s at → byteAt s at ≤ 6 → ⊥) → at < length s → Walks s q at items (To (at + 1) (items - 1))
+  pub always-past : (3 ≤ byteAt s at → byteAt s at ≤ 6 → ⊥) → (byteAt s at ≡ 8 → ⊥) → at < length s → Walks s q at items (To (at + 1) (items - 1))
   unfolding clauseHas leaves anyOf size
-  always-past out inside x t found =
-      let l = always-is items items s at x t found out in
+  always-past out no-count inside x t found =
+      let l = always-is items items s at x t found out no-count in
       let one : size x ≡ 1 = ap size (l .0) in
       (rw (l .0), l .1, omega arith, omega (arith, expr-read items items (drop at s) x t found .1))
 

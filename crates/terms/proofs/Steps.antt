@@ -2,7 +2,7 @@
 --     schema-here                   a schema that is there stands for its items
 --     subject-here, subject-past    its subject kind, and the one past the last schema
 --     type-here                     its norm type
---     leaf-asked                    a question about a leaf's events, one after another
+--     window-asked                  a question about the events of a window, one after another
 --     Left, left-…                  a test of the numbers below n, one after another
 -- Assumes nothing.
 use Prim.Native.Nat.{ℕ, zero, suc, _+_, _-_, _*_, _≤_, _<_}
@@ -11,20 +11,20 @@ use native.Mathlib.Numerals.{add-one}
 use native.Mathlib.Omega.{arith}
 use mathlib.Core.Path.{_≡_, refl, ap, sym, _∙_}
 use mathlib.Core.Bool.{Bool, true, false, _||_}
-use mathlib.Core.List.{List, [], _∷_, map}
+use mathlib.Core.List.{List, [], _∷_, _++_, map}
 use lib.ListN.{length, getD, length-map, List·getD-eq-default}
-use Rattle.meaning.specs.declared.Leaf.{Leaf}
+use Rattle.meaning.specs.declared.Event.{Event}
+use Rattle.meaning.specs.declared.Bound.{Bound}
 use Rattle.meaning.specs.Lists.{numbersFrom, anyOf}
-use Rattle.meaning.specs.Terms.{Terms, Schema, schemaAt, boundEvents, leafEvents}
+use Rattle.meaning.specs.Terms.{Terms, Schema, schemaAt, boundEvents}
 use Rattle.format.specs.Bytes.{byteAt}
 use Rattle.format.specs.Grammar.{fileOf}
-use Rattle.format.specs.Fields.{normTypeOf, leafFrom, schemaFrom, termsFrom, termsOf}
+use Rattle.format.specs.Fields.{normTypeOf, schemaFrom, termsFrom, termsOf}
 use Rattle.meaning.proofs.ListLaws.{any-here, any-behind, any-append}
 use Rattle.format.proofs.PlaceLaws.{byte-within}
 use Rattle.grammar.specs.Places.{noItems, Starts}
 use Rattle.terms.specs.declared.EventQuestion.{EventQuestion}
-use Rattle.terms.specs.declared.Question.the-variants.{SomeEvent}
-use Rattle.terms.specs.Questions.{asked, askedOfLeaf}
+use Rattle.terms.specs.Questions.{asked}
 
 -- an element that is there, in another form, whatever stands for those that are not
 getD-map-in : {A B : Type 0} (f : A → B) (l : List A) (n : ℕ) (d : B) (e : A) → n < length l → getD (map f l) n d ≡ f (getD l n e)
@@ -60,11 +60,11 @@ pub subject-past : (s : List ℕ) (n : ℕ) → length (fileOf s .schemas) ≤ n
 unfolding schemaAt termsOf termsFrom
 subject-past s n h = ap (λ (x : Schema). x .subject) (List·getD-eq-default (map schemaFrom (fileOf s .schemas)) _ (omega (arith, length-map (fileOf s .schemas) schemaFrom)))
 
--- a question about a leaf's events: its own, its lower bound's, its upper bound's
-pub leaf-asked : (terms : Terms) (q : EventQuestion) (x : Leaf) (body : List ℕ) → x ≡ leafFrom body → askedOfLeaf terms (SomeEvent q) body
-    ≡ (asked terms q (x .event) || (anyOf (asked terms q) (boundEvents (x .lower)) || anyOf (asked terms q) (boundEvents (x .upper))))
-unfolding askedOfLeaf leafEvents anyOf
-leaf-asked terms q x body e = rw (← e) (ap (λ (b : Bool). asked terms q (x .event) || b) (any-append (asked terms q) (boundEvents (x .lower)) (boundEvents (x .upper))))
+-- a question about an event, its window's lower bound and its upper one
+pub window-asked : (terms : Terms) (q : EventQuestion) (e : Event) (l u : Bound) → anyOf (asked terms q) (e ∷ (boundEvents l ++ boundEvents u))
+    ≡ (asked terms q e || (anyOf (asked terms q) (boundEvents l) || anyOf (asked terms q) (boundEvents u)))
+unfolding anyOf
+window-asked terms q e l u = ap (λ (b : Bool). asked terms q e || b) (any-append (asked terms q) (boundEvents l) (boundEvents u))
 
 -- a test of the numbers below n, of which those from i on are left
 abbrev pub Left : (ℕ → Bool) → ℕ → ℕ → Type 0

@@ -25,10 +25,10 @@ unfoldable pub asked : Terms → EventQuestion → Event → Bool
 asked terms (CitesFrom k) e = citesFrom k e
 asked terms (SharesNone subject) e = sharesNone terms subject e
 
--- a question about a leaf, by its body
+-- a question about a leaf, by its item
 unfoldable pub askedOfLeaf : Terms → Question → List ℕ → Bool
-askedOfLeaf terms OutOfRange body = leafWrong terms body
-askedOfLeaf terms (SomeEvent q) body = anyOf (asked terms q) (leafEvents (leafFrom body))
+askedOfLeaf terms OutOfRange item = leafWrong terms item
+askedOfLeaf terms (SomeEvent q) item = anyOf (asked terms q) (leafEvents (leafFrom item))
 
 -- a question about some leaf of a clause
 unfoldable pub clauseHas : List ℕ → Question → Expr (List ℕ) → Bool

@@ -3,21 +3,25 @@ use calls::Checked;
 use calls::Refusal;
 use fields::mask_of;
 use grammar::AND;
+use grammar::COUNT;
+use grammar::COUNT_BODY;
 use grammar::EXCEPT;
 use grammar::EXPRESSION_LIMIT;
 use grammar::LEAF;
 use grammar::LEAF_BODY;
 use grammar::Layout;
 use grammar::OR;
+use meaning::Atom;
 use meaning::Bound;
 use meaning::Event;
 use meaning::Stage;
 ghost use mathlib.Core.Path.{_≡_};
-ghost use mathlib.Core.List.{List};
+ghost use mathlib.Core.List.{List, _∷_, _++_};
 ghost use Prim.Native.Nat.{ℕ, _+_, _-_, _*_, _<_, _≤_};
 ghost use lib.ListN.{length, getD, take, drop};
 ghost use Rattle.meaning.specs.Lists.{numbersFrom, anyOf};
-ghost use Rattle.meaning.specs.Terms.{Expr, schemaAt, kindOf, rank, boundEvents};
+ghost use Rattle.meaning.specs.Terms.{Expr, schemaAt, kindOf, rank, boundEvents, leafEvents};
+ghost use Rattle.format.specs.Bytes.{byteAt};
 ghost use Rattle.format.specs.Grammar.{fileOf, breaksGrammar};
 ghost use Rattle.format.specs.Fields.{kindsWrong, fieldWrong, citesFrom, sharesNone, termsOf};
 ghost use Rattle.calls.specs.Answers.{checkedAnswer};
@@ -155,21 +159,19 @@ fn bound_has(
     }
 }
 
-// A question about some event of the leaf whose body starts at a place: its own, or one of its bounds'.
-fn some_event_has(
+// A question about an event and those of its window's bounds.
+fn window_has(
     terms: &[u8],
     kinds: usize,
     starts: &[usize],
     question: EventQuestion,
-    at: usize,
+    event: Event,
+    lower: Bound,
+    upper: Bound,
 ) -> bool
-    requires { ⌜ Placed (now terms) kinds (now starts) × (at + 16 ≤ length (now terms)) ⌝ }
-    ensures { λ r. ⌜ r ≡ askedOfLeaf (termsOf (now (terms .entry))) (Question.SomeEvent question) (take 16 (drop at (now (terms .entry)))) ⌝ }
+    requires { ⌜ Placed (now terms) kinds (now starts) ⌝ }
+    ensures { λ r. ⌜ r ≡ anyOf (asked (termsOf (now (terms .entry))) question) (event ∷ (boundEvents lower ++ boundEvents upper)) ⌝ }
 {
-    let leaf = fields::leaf_at(terms, at);
-    let event = leaf.event;
-    let lower = leaf.lower;
-    let upper = leaf.upper;
     if event_has(terms, kinds, starts, question, event) {
         return true;
     }
@@ -179,14 +181,56 @@ fn some_event_has(
     bound_has(terms, kinds, starts, question, upper)
 }
 
-// A question about the leaf whose body starts at a place.
+// A question about some event of a leaf: what it waits for or counts, or one of its bounds'.
+fn some_event_has(
+    terms: &[u8],
+    kinds: usize,
+    starts: &[usize],
+    question: EventQuestion,
+    leaf: Atom,
+) -> bool
+    requires { ⌜ Placed (now terms) kinds (now starts) ⌝ }
+    ensures { λ r. ⌜ r ≡ anyOf (asked (termsOf (now (terms .entry))) question) (leafEvents leaf) ⌝ }
+{
+    match leaf {
+        Atom::Happens(x) => {
+            let event = x.event;
+            let lower = x.lower;
+            let upper = x.upper;
+            window_has(terms, kinds, starts, question, event, lower, upper)
+        }
+        Atom::Counts(x) => {
+            let event = Event::Kind(x.kind);
+            let lower = x.lower;
+            let upper = x.upper;
+            window_has(terms, kinds, starts, question, event, lower, upper)
+        }
+    }
+}
+
+// A question about the leaf whose item 03 starts at a place.
 fn leaf_has(terms: &[u8], kinds: usize, starts: &[usize], question: Question, at: usize) -> bool
-    requires { ⌜ Placed (now terms) kinds (now starts) × (at + 16 ≤ length (now terms)) ⌝ }
-    ensures { λ r. ⌜ r ≡ askedOfLeaf (termsOf (now (terms .entry))) question (take 16 (drop at (now (terms .entry)))) ⌝ }
+    requires { ⌜ Placed (now terms) kinds (now starts) × (byteAt (now terms) at ≡ 3) × (at + 17 ≤ length (now terms)) ⌝ }
+    ensures { λ r. ⌜ r ≡ askedOfLeaf (termsOf (now (terms .entry))) question (take 17 (drop at (now (terms .entry)))) ⌝ }
 {
     match question {
         Question::OutOfRange => fields::leaf_wrong(terms, kinds, at),
-        Question::SomeEvent(asked) => some_event_has(terms, kinds, starts, asked, at),
+        Question::SomeEvent(asked) => {
+            some_event_has(terms, kinds, starts, asked, fields::leaf_at(terms, at))
+        }
+    }
+}
+
+// A question about the count whose item 08 starts at a place.
+fn count_has(terms: &[u8], kinds: usize, starts: &[usize], question: Question, at: usize) -> bool
+    requires { ⌜ Placed (now terms) kinds (now starts) × (byteAt (now terms) at ≡ 8) × (at + 20 ≤ length (now terms)) ⌝ }
+    ensures { λ r. ⌜ r ≡ askedOfLeaf (termsOf (now (terms .entry))) question (take 20 (drop at (now (terms .entry)))) ⌝ }
+{
+    match question {
+        Question::OutOfRange => fields::count_wrong(terms, kinds, at),
+        Question::SomeEvent(asked) => {
+            some_event_has(terms, kinds, starts, asked, fields::count_at(terms, at))
+        }
     }
 }
 
@@ -204,10 +248,16 @@ fn expression_has(
 {
     match terms[at] {
         LEAF => {
-            if leaf_has(terms, kinds, starts, question, at + 1) {
+            if leaf_has(terms, kinds, starts, question, at) {
                 return Walked::Found;
             }
             Walked::To(at + 1 + LEAF_BODY, items - 1)
+        }
+        COUNT => {
+            if count_has(terms, kinds, starts, question, at) {
+                return Walked::Found;
+            }
+            Walked::To(at + 1 + COUNT_BODY, items - 1)
         }
         AND | OR | EXCEPT => {
             let Walked::To(middle, left) = expression_has(

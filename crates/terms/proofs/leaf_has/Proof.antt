@@ -14,7 +14,8 @@ returns c =
     rw (c .before .enum-told .given .1) (c .leaf-wrong .ensures (termsOf (a .args .terms .now)) (a .pre .0 .0 ∙ sym (kinds-count (a .args .terms .now))))
 
 returns-2 : tie.Need-returns-2
-returns-2 c = rw (c .before .before .question .given .1, c .some-event-has .ensures)
+unfolding askedOfLeaf
+returns-2 c = rw (c .before .before .before .question .given .1, c .some-event-has .ensures, c .before .leaf-at .ensures)
 
 pub leaf-has-spec : {M : Type 1} → statement M
 leaf-has-spec =
@@ -23,6 +24,7 @@ leaf-has-spec =
     (λ c. search needs)
     (λ c κs. search needs)
     (λ c. search needs)
+    (λ c κs. search needs)
     (λ c κs. search needs)
     returns
     returns-2)

@@ -1,38 +1,24 @@
 -- `some_event_has` meets its contract. Assumes nothing.
 use borrow.Author.Needs.{needs}
-use Rattle.terms.proofs.Steps.{leaf-asked}
+use Rattle.meaning.specs.Terms.{leafEvents}
 use Rattle.terms.proofs.some_event_has.Statement.{statement}
 use Rattle.terms.proofs.some_event_has.Tie as tie
 
 returns : tie.Need-returns
-returns c = let e = c .before in rw (leaf-asked _ _ _ _ (e .before .leaf-at .ensures), ← e .event-has .ensures, c .if1 .taken)
+unfolding leafEvents
+returns c = rw (c .before .before .leaf .given .1) (c .window-has .ensures)
 
 returns-2 : tie.Need-returns-2
-returns-2 c =
-    let e = c .before .before .before in
-    rw (leaf-asked _ _ _ _ (e .before .leaf-at .ensures), ← e .event-has .ensures, c .before .before .if1 .left, ← c .before .bound-has .ensures, c .if2 .taken)
-
-returns-3 : tie.Need-returns-3
-returns-3 c =
-    let b = c .before .before in
-    let e = b .before .before in
-    rw (
-      leaf-asked _ _ _ _ (e .before .leaf-at .ensures),
-      ← e .event-has .ensures,
-      b .before .if1 .left,
-      ← b .bound-has .ensures,
-      c .before .if2 .left,
-    )
-    (c .bound-has2 .ensures)
+unfolding leafEvents
+returns-2 c = rw (c .before .before .leaf2 .given .1) (c .window-has2 .ensures)
 
 pub some-event-has-spec : {M : Type 1} → statement M
 some-event-has-spec =
     tie.close
     (tie.spec
+    (λ c. search needs)
     (λ c κs. search needs)
+    (λ c. search needs)
     (λ c κs. search needs)
     returns
-    (λ c κs. search needs)
-    returns-2
-    (λ c κs. search needs)
-    returns-3)
+    returns-2)
