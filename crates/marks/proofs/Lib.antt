@@ -1,2 +1,3 @@
 -- Laws of marks.
 pub mod Marked
+pub mod Scans

@@ -9,7 +9,6 @@ use Rattle.meaning.specs.declared.Time.the-variants.{At, Never}
 use Rattle.meaning.specs.declared.Event.{Event}
 use Rattle.meaning.specs.declared.Edge.{Edge}
 use Rattle.meaning.specs.declared.Edge.the-variants.{Minute, Endless}
-use Rattle.meaning.specs.Lists.{All}
 use Rattle.meaning.specs.Time.{before, from, earlierOf}
 use Rattle.meaning.specs.Terms.{Terms}
 use Rattle.meaning.specs.Log.{Record, Log}
@@ -46,12 +45,6 @@ pub first-whole : (times : StageTimes) (terms : Terms) (log : Log) (subject : Re
     → first times terms log subject e ≡ firstWithin times terms log subject (Minute 0) Endless e
 unfolding first firstWithin
 first-whole times terms log subject e = ap (λ (f : Record → Time). earliest f log) (fun-ext λ r. whole (happening times terms subject e r))
-
--- records that give no time have no earliest one
-pub earliest-never : (f : Record → Time) (P : Record → Type 0) → ((r : Record) → P r → f r ≡ Never) → (log : Log) → All P log → earliest f log ≡ Never
-unfolding earliest earlierOf
-earliest-never f P none [] all = refl
-earliest-never f P none (r ∷ log) all = rw (none r (all .0)) (earliest-never f P none log (all .1))
 
 -- an open lower bound lets nothing in
 pub none-within : (times : StageTimes) (terms : Terms) (log : Log) (subject : Record) (u : Edge) (e : Event)

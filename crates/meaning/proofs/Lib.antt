@@ -4,6 +4,7 @@ pub mod ListLaws
 pub mod MemberLaws
 pub mod TimeLaws
 pub mod EdgeLaws
+pub mod GatherLaws
 pub mod NeverBoth
 pub mod BoundLaws
 pub mod RelatedTimes

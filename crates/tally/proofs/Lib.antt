@@ -1,0 +1,2 @@
+-- Laws that the proofs of counting cite.
+pub mod Counted
