@@ -1,7 +1,7 @@
 -- The times of an expression at a place of terms, by what the code tells of it; and a stage's time from those times of its clauses that it needs.
 --     expression-as                                   what is known of an expression, as the code told it
---     leaf-times, and-times, or-times, except-times   its times, case by case
---     always-times, nothing-times
+--     leaf-times, count-as, and-times, or-times,   its times, case by case
+--     except-times, always-times, nothing-times
 --     occurs-times, fails-times                       both times, where it occurs and where it does not
 --     stage-whole, stage-here                         a stage's time from its clauses
 -- Assumes nothing.
@@ -14,6 +14,9 @@ use Rattle.meaning.specs.declared.Time.the-variants.{At, Never}
 use Rattle.meaning.specs.declared.Stage.{Stage}
 use Rattle.meaning.specs.declared.NormType.{NormType}
 use Rattle.meaning.specs.declared.Leaf.{Leaf}
+use Rattle.meaning.specs.declared.CountLeaf.{CountLeaf}
+use Rattle.meaning.specs.declared.Atom.{Atom}
+use Rattle.meaning.specs.declared.Atom.the-variants.{Happens, Counts}
 use Rattle.meaning.specs.declared.Times.{Times}
 use Rattle.meaning.specs.Time.{laterOf}
 use Rattle.meaning.specs.Terms.{Expr, leaf, and, or, except, always, schemaAt}
@@ -40,27 +43,31 @@ expression-as s at items h x e = rw e at h
 
 module _ (terms log : List ℕ) (k subject : ℕ) where
   -- the times of an expression, for a clause of rank k and the subject
-  abbrev pub timesIn : Expr Leaf → Times
+  abbrev pub timesIn : Expr Atom → Times
   timesIn x = under timesOf terms log k subject x
 
-  module _ {x : Expr Leaf} where
+  module _ {x : Expr Atom} where
     -- those of a leaf
-    pub leaf-times : {l : Leaf} → x ≡ leaf l → timesIn x ≡ record { occurs = under leafOccurrence terms log k subject l; fails = under leafFailure terms log k subject l }
+    pub leaf-times : {a : Atom} {l : Leaf} → x ≡ leaf a → a ≡ Happens l → timesIn x ≡ record { occurs = under leafOccurrence terms log k subject l; fails = under leafFailure terms log k subject l }
     unfolding under timesOf
-    leaf-times e = rw e
+    leaf-times e f = rw (e, f)
+
+    -- those of a count
+    pub count-as : {a : Atom} {c : CountLeaf} → x ≡ leaf a → a ≡ Counts c → timesIn x ≡ timesIn (leaf (Counts c))
+    count-as e f = rw (e, f)
 
     -- those of both
-    pub and-times : {a b : Expr Leaf} → x ≡ and a b → timesIn x ≡ andOf (timesIn a) (timesIn b)
+    pub and-times : {a b : Expr Atom} → x ≡ and a b → timesIn x ≡ andOf (timesIn a) (timesIn b)
     unfolding under timesOf
     and-times e = rw e
 
     -- those of one or the other
-    pub or-times : {a b : Expr Leaf} → x ≡ or a b → timesIn x ≡ orOf (timesIn a) (timesIn b)
+    pub or-times : {a b : Expr Atom} → x ≡ or a b → timesIn x ≡ orOf (timesIn a) (timesIn b)
     unfolding under timesOf
     or-times e = rw e
 
     -- those of one without the other
-    pub except-times : {a b : Expr Leaf} → x ≡ except a b → timesIn x ≡ exceptOf (timesIn a) (timesIn b)
+    pub except-times : {a b : Expr Atom} → x ≡ except a b → timesIn x ≡ exceptOf (timesIn a) (timesIn b)
     unfolding under timesOf
     except-times e = rw e
 
@@ -71,12 +78,12 @@ module _ (terms log : List ℕ) (k subject : ℕ) where
 
     -- those of what cannot be read
     pub nothing-times : x ≡ leaf neither → timesIn x ≡ record { occurs = Never; fails = Never }
-    unfolding under timesOf
+    unfolding under timesOf neither
     nothing-times e =
         let silent = neither-silent (cited k (stageTime (termsOf terms) (logIn terms log))) (termsOf terms) (logIn terms log) (recordIn terms log subject) in
         rw (e, silent .0, silent .1)
 
-module _ (terms log : List ℕ) (k subject : ℕ) (x : Expr Leaf) where
+module _ (terms log : List ℕ) (k subject : ℕ) (x : Expr Atom) where
   -- the times of an expression that occurs: it does not fail
   pub occurs-times : {n : ℕ} → timesIn terms log k subject x .occurs ≡ At n → record { occurs = At n; fails = Never } ≡ timesIn terms log k subject x
   unfolding under

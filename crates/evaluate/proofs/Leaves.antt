@@ -5,27 +5,38 @@
 --     occurs, occurs-no-…                       when a leaf occurs, and when not
 --     fails-empty, fails-missed                 when a leaf fails
 --     fails-no-…, fails-unreached, fails-met    when it does not
+--     count-no-…, count-more, count-few         the times of a count
 -- Assumes nothing.
-use Prim.Native.Nat.{ℕ, _+_, _-_}
+use Prim.Native.Nat.{ℕ, _+_, _-_, _≤_, _<_}
 use native.Mathlib.Omega.{arith}
-use mathlib.Core.Path.{_≡_, refl, ap, sym, _∙_, fun-ext}
+use mathlib.Core.Path.{_≡_, refl, ap, ap₂, sym, _∙_, fun-ext}
 use mathlib.Core.Logic.{_⊎_, inl, inr}
+use mathlib.Core.Bool.{Bool}
 use mathlib.Core.List.{List}
+use lib.Dec.{leb, ltb}
+use borrow.Author.Tests.{lt-ltb, le-ltb, le-leb, lt-leb}
 use Rattle.meaning.specs.declared.Time.{Time}
 use Rattle.meaning.specs.declared.Time.the-variants.{At, Never}
 use Rattle.meaning.specs.declared.Event.{Event}
 use Rattle.meaning.specs.declared.Bound.{Bound}
 use Rattle.meaning.specs.declared.Bound.the-variants.{Plain, Plus, Minus, Open}
 use Rattle.meaning.specs.declared.Leaf.{Leaf}
+use Rattle.meaning.specs.declared.CountLeaf.{CountLeaf}
+use Rattle.meaning.specs.declared.Atom.the-variants.{Counts}
 use Rattle.meaning.specs.declared.Edge.{Edge}
 use Rattle.meaning.specs.declared.Edge.the-variants.{Minute, Endless}
-use Rattle.meaning.specs.Time.{laterOf, onceKnown, ifNever}
-use Rattle.meaning.specs.Meaning.{reached, edgeOf, first, firstWithin, known, leafOccurrence, failureAt, leafFailure}
+use Rattle.meaning.specs.declared.Times.{Times}
+use Rattle.meaning.specs.Time.{laterOf, onceKnown, ifNever, onlyIf}
+use Rattle.meaning.specs.Terms.{leaf}
+use Rattle.meaning.specs.Meaning.{StageTimes, cited, reached, edgeOf, first, firstWithin, known, leafOccurrence, failureAt, leafFailure, countWithin, countTime, timesOf, stageTime}
+use Rattle.format.specs.Fields.{termsOf}
+use Rattle.format.specs.Records.{valueWidth, recordsIn}
 use Rattle.meaning.proofs.TimeLaws.{ifNever-never, onceKnown-never}
 use Rattle.meaning.proofs.EdgeLaws.{first-whole}
+use Rattle.records.specs.Holds.{recordAt}
 use Rattle.evaluate.specs.declared.KnownBound.{KnownBound}
 use Rattle.evaluate.specs.declared.KnownBound.the-variants.{Known, Unknown}
-use Rattle.evaluate.specs.Seen.{under, knownAs}
+use Rattle.evaluate.specs.Seen.{logIn, recordIn, under, knownAs}
 
 -- a known bound: its value, and the minute since which it is known
 known-at : (b : Bound) (t : Time) {r : KnownBound} {u : Edge} {g : ℕ} → r ≡ knownAs b t → r ≡ Known u g → (t ≡ At g) × (u ≡ edgeOf b g)
@@ -38,6 +49,11 @@ known-never : (b : Bound) (t : Time) {r : KnownBound} → r ≡ knownAs b t → 
 unfolding knownAs
 known-never b (At n) e f = let z : _≡_ {A = ℕ} 0 1 = cc in absurd (omega arith)
 known-never b Never e f = refl
+
+-- none stays none, whenever the bounds are known
+never-settled : (g h : ℕ) → laterOf (At g) (laterOf (At h) Never) ≡ Never
+unfolding laterOf
+never-settled g h = refl
 
 module _ (terms log : List ℕ) (k subject : ℕ) where
   -- a plain bound is known from the start
@@ -135,3 +151,46 @@ module _ (terms log : List ℕ) (k subject : ℕ) where
               pub fails-missed : {a b : Time} → w ≡ Never → a ≡ laterOf (At g) (At m) → b ≡ laterOf (At h) a → b ≡ under leafFailure terms log k subject x
               unfolding under failureAt onceKnown ifNever
               fails-missed p e d = let low = known-at (x .lower) _ lower since in rw (d, e, fails-at, ← early, some, low .0, ← low .1, ← inside, p, ← end, at)
+
+  module _ (x : CountLeaf) where
+    -- the times of a count
+    abbrev pub countIn : Times
+    countIn = under timesOf terms log k subject (leaf (Counts x))
+
+    module _ {r : KnownBound} (lower : r ≡ knownAs (x .lower) (under known terms log k subject (x .lower))) where
+      -- without a known lower bound a count is not settled
+      pub count-no-lower : r ≡ Unknown → record { occurs = Never; fails = Never } ≡ countIn
+      unfolding under timesOf countTime onceKnown
+      count-no-lower p = rw (known-never (x .lower) _ lower p)
+
+      module _ {l : Edge} {g : ℕ} (since : r ≡ Known l g) {s : KnownBound} (upper : s ≡ knownAs (x .upper) (under known terms log k subject (x .upper))) where
+        -- nor without a known upper bound
+        pub count-no-upper : s ≡ Unknown → record { occurs = Never; fails = Never } ≡ countIn
+        unfolding under timesOf countTime onceKnown laterOf
+        count-no-upper p = rw (known-at (x .lower) _ lower since .0, known-never (x .upper) _ upper p)
+
+        module _ {u : Edge} {h : ℕ} (till : s ≡ Known u h) {e a b : Time} (end : e ≡ reached u) (p : a ≡ laterOf (At h) e) (q : b ≡ laterOf (At g) a)
+            {n : ℕ} (number : (ts : StageTimes) → n ≡ countWithin ts (termsOf terms) (recordsIn valueWidth (termsOf terms) log) (recordAt (termsOf terms) log subject) l u (x .kind)) where
+          -- it is settled when the window has ended, but not before both bounds are known
+          count-time : (passes : ℕ → Bool) → under countTime terms log k subject passes x ≡ laterOf (At g) (laterOf (At h) (onlyIf (passes n) e))
+          unfolding under logIn recordIn countTime onceKnown
+          count-time passes =
+              let low = known-at (x .lower) _ lower since in
+              let high = known-at (x .upper) _ upper till in
+              rw (low .0, high .0, ← low .1, ← high .1, ← number (cited k (stageTime (termsOf terms) (logIn terms log))), ← end)
+
+          -- with more records than the threshold it occurs
+          pub count-more : x .threshold < n → record { occurs = b; fails = Never } ≡ countIn
+          unfolding under timesOf onlyIf
+          count-more m =
+              ap₂ (λ (o f : Time). record { occurs = o; fails = f })
+              (sym (count-time (λ n. ltb (x .threshold) n) ∙ rw (lt-ltb (x .threshold) n m, q, p)))
+              (sym (count-time (λ n. leb n (x .threshold)) ∙ rw (lt-leb n (x .threshold) m) (never-settled g h)))
+
+          -- with as many or fewer it fails
+          pub count-few : n ≤ x .threshold → record { occurs = Never; fails = b } ≡ countIn
+          unfolding under timesOf onlyIf
+          count-few m =
+              ap₂ (λ (o f : Time). record { occurs = o; fails = f })
+              (sym (count-time (λ n. ltb (x .threshold) n) ∙ rw (le-ltb (x .threshold) n m) (never-settled g h)))
+              (sym (count-time (λ n. leb n (x .threshold)) ∙ rw (le-leb n (x .threshold) m, q, p)))

@@ -12,16 +12,17 @@ use Rattle.fields.specs.Decoded.{ExpressionAt}
 use Rattle.fields.proofs.expression_at.Reads as expression-at
 use Rattle.index.specs.Chains.{Ready}
 use Rattle.evaluate.specs.Seen.{Posed}
-use Rattle.evaluate.proofs.Expressions.{expression-as, leaf-times, and-times, or-times, except-times, always-times, nothing-times}
+use Rattle.evaluate.proofs.Expressions.{expression-as, leaf-times, count-as, and-times, or-times, except-times, always-times, nothing-times}
+use Rattle.evaluate.proofs.count_times.Reads as count-times
 use Rattle.evaluate.proofs.leaf_failure.Reads as leaf-failure
 use Rattle.evaluate.proofs.occurrence.Reads as occurrence
 use Rattle.evaluate.proofs.failure.Reads as failure
-use Rattle.evaluate.proofs.+clause_times+failure+first+first_within+happening+known_bound+leaf_failure+leaf_occurrence+occurrence+stage_time.Lts-failure as lts
-use Rattle.evaluate.proofs.+clause_times+failure+first+first_within+happening+known_bound+leaf_failure+leaf_occurrence+occurrence+stage_time.Proof.Measures.{failure-entry, failure-below, leaf-failure-below, occurrence-below}
+use Rattle.evaluate.proofs.+clause_times+count_times+failure+first+first_within+happening+known_bound+leaf_failure+leaf_occurrence+occurrence+stage_time.Lts-failure as lts
+use Rattle.evaluate.proofs.+clause_times+count_times+failure+first+first_within+happening+known_bound+leaf_failure+leaf_occurrence+occurrence+stage_time.Proof.Measures.{failure-entry, failure-below, leaf-failure-below, occurrence-below, count-times-below}
 
 -- what the callees ask and promise
 abbrev claims : ℕ → lts.Claims
-claims t = (expression-at.Asked, expression-at.Learnt, leaf-failure-below t, leaf-failure.Post, failure-below t, failure.Post, earlier-of.Asked, earlier-of.Learnt, later-of.Asked, later-of.Learnt, occurrence-below t, occurrence.Post)
+claims t = (expression-at.Asked, expression-at.Learnt, leaf-failure-below t, leaf-failure.Post, count-times-below t, count-times.Post, failure-below t, failure.Post, earlier-of.Asked, earlier-of.Learnt, later-of.Asked, later-of.Learnt, occurrence-below t, occurrence.Post)
 
 -- what is read at the place, as it is told
 read : (t : ℕ) (c : lts.After-expression-at (claims t) (failure-entry t) failure.Post) (x : Expression) → c .expression-at .result ≡ x
@@ -36,42 +37,54 @@ operand t c n h = let p = c .before .before .before .before .pre .1 in (omega ar
 
 leaf-returns : (t : ℕ) → lts.Need-returns (claims t) (failure-entry t) failure.Post
 leaf-returns t c =
-    let a = c .before .before .before .before .before .before .before .before .args in
-    rw (leaf-times (a .terms .now) (a .log .now) (a .clause .rank) (a .clause .subject) (read t (c .before .before .before .before) _ (c .before .before .leaf .given .1))) (c .leaf-failure .ensures)
+    let told = c .before .before in
+    let read-here = told .before .before .before .before .before in
+    let a = read-here .before .before .before .before .args in
+    rw (leaf-times (a .terms .now) (a .log .now) (a .clause .rank) (a .clause .subject) (read t read-here _ (told .before .before .before .atom .given .1)) (told .atom2 .given .1)) (c .leaf-failure .ensures)
 
-and-returns : (t : ℕ) → lts.Need-returns-2 (claims t) (failure-entry t) failure.Post
+count-returns : (t : ℕ) → lts.Need-returns-2 (claims t) (failure-entry t) failure.Post
+count-returns t c =
+    let told = c .before .before in
+    let read-here = told .before .before .before .before .before in
+    let a = read-here .before .before .before .before .args in
+    rw (count-as (a .terms .now) (a .log .now) (a .clause .rank) (a .clause .subject) (read t read-here _ (told .before .before .before .atom .given .1)) (told .atom3 .given .1), c .count-times .ensures)
+
+and-returns : (t : ℕ) → lts.Need-returns-3 (claims t) (failure-entry t) failure.Post
 unfolding andOf
 and-returns t c =
     let a = c .before .before .before .before .before .before .before .before .before .before .args in
     let j = read t (c .before .before .before .before .before .before) _ (c .before .before .before .before .second .given .1) in
     rw (and-times (a .terms .now) (a .log .now) (a .clause .rank) (a .clause .subject) (j .0), c .earlier-of .ensures, c .before .before .failure .ensures, c .before .failure2 .ensures)
 
-or-returns : (t : ℕ) → lts.Need-returns-3 (claims t) (failure-entry t) failure.Post
+or-returns : (t : ℕ) → lts.Need-returns-4 (claims t) (failure-entry t) failure.Post
 unfolding orOf
 or-returns t c =
     let a = c .before .before .before .before .before .before .before .before .before .before .args in
     let j = read t (c .before .before .before .before .before .before) _ (c .before .before .before .before .second2 .given .1) in
     rw (or-times (a .terms .now) (a .log .now) (a .clause .rank) (a .clause .subject) (j .0), c .later-of .ensures, c .before .before .failure3 .ensures, c .before .failure4 .ensures)
 
-except-returns : (t : ℕ) → lts.Need-returns-4 (claims t) (failure-entry t) failure.Post
+except-returns : (t : ℕ) → lts.Need-returns-5 (claims t) (failure-entry t) failure.Post
 unfolding exceptOf
 except-returns t c =
     let a = c .before .before .before .before .before .before .before .before .before .before .args in
     let j = read t (c .before .before .before .before .before .before) _ (c .before .before .before .before .second3 .given .1) in
     rw (except-times (a .terms .now) (a .log .now) (a .clause .rank) (a .clause .subject) (j .0), c .earlier-of2 .ensures, c .before .before .failure5 .ensures, c .before .occurrence .ensures)
 
-always-returns : (t : ℕ) → lts.Need-returns-5 (claims t) (failure-entry t) failure.Post
+always-returns : (t : ℕ) → lts.Need-returns-6 (claims t) (failure-entry t) failure.Post
 always-returns t c =
     let a = c .before .before .before .before .before .before .args in
     rw (always-times (a .terms .now) (a .log .now) (a .clause .rank) (a .clause .subject) (read t (c .before .before) _ (c .enum-told .given .1)))
 
-nothing-returns : (t : ℕ) → lts.Need-returns-6 (claims t) (failure-entry t) failure.Post
+nothing-returns : (t : ℕ) → lts.Need-returns-7 (claims t) (failure-entry t) failure.Post
 nothing-returns t c =
     let a = c .before .before .before .before .before .before .args in
     rw (nothing-times (a .terms .now) (a .log .now) (a .clause .rank) (a .clause .subject) (read t (c .before .before) _ (c .enum-told2 .given .1)))
 
 pub failure-closed : {M : Type 1} (t : ℕ) → lts.Closed (claims t) (failure-entry t) failure.Post M
 failure-closed t = lts.spec (claims t) (failure-entry t) failure.Post
+    (λ c κs. search needs)
+    (λ c. search needs)
+    (λ c. search needs)
     (λ c κs. search needs)
     (λ c. search needs)
     (λ c κs. search needs)
@@ -96,6 +109,7 @@ failure-closed t = lts.spec (claims t) (failure-entry t) failure.Post
     (λ c. search needs)
     (λ c. search needs)
     (leaf-returns t)
+    (count-returns t)
     (and-returns t)
     (or-returns t)
     (except-returns t)

@@ -14,8 +14,8 @@ use Rattle.table.proofs.start_in.Reads as start-in
 use Rattle.evaluate.proofs.failure.Reads as failure
 use Rattle.evaluate.proofs.occurrence.Reads as occurrence
 use Rattle.evaluate.proofs.clause_times.Reads as clause-times
-use Rattle.evaluate.proofs.+clause_times+failure+first+first_within+happening+known_bound+leaf_failure+leaf_occurrence+occurrence+stage_time.Lts-clause_times as lts
-use Rattle.evaluate.proofs.+clause_times+failure+first+first_within+happening+known_bound+leaf_failure+leaf_occurrence+occurrence+stage_time.Proof.Measures.{weight, clause-times-entry, failure-below, occurrence-below}
+use Rattle.evaluate.proofs.+clause_times+count_times+failure+first+first_within+happening+known_bound+leaf_failure+leaf_occurrence+occurrence+stage_time.Lts-clause_times as lts
+use Rattle.evaluate.proofs.+clause_times+count_times+failure+first+first_within+happening+known_bound+leaf_failure+leaf_occurrence+occurrence+stage_time.Proof.Measures.{weight, clause-times-entry, failure-below, occurrence-below}
 
 -- what the callees ask and promise
 abbrev claims : ℕ → lts.Claims

@@ -4,8 +4,8 @@ use borrow.Author.Needs.{needs}
 use Rattle.evaluate.proofs.Leaves.{first-here}
 use Rattle.evaluate.proofs.first_within.Reads as first-within
 use Rattle.evaluate.proofs.first.Reads as first
-use Rattle.evaluate.proofs.+clause_times+failure+first+first_within+happening+known_bound+leaf_failure+leaf_occurrence+occurrence+stage_time.Lts-first as lts
-use Rattle.evaluate.proofs.+clause_times+failure+first+first_within+happening+known_bound+leaf_failure+leaf_occurrence+occurrence+stage_time.Proof.Measures.{first-entry, first-within-below}
+use Rattle.evaluate.proofs.+clause_times+count_times+failure+first+first_within+happening+known_bound+leaf_failure+leaf_occurrence+occurrence+stage_time.Lts-first as lts
+use Rattle.evaluate.proofs.+clause_times+count_times+failure+first+first_within+happening+known_bound+leaf_failure+leaf_occurrence+occurrence+stage_time.Proof.Measures.{first-entry, first-within-below}
 
 -- what the callee asks and promises
 abbrev claims : ℕ → lts.Claims

@@ -7,8 +7,8 @@ use Rattle.times.proofs.plus.Reads as plus
 use Rattle.evaluate.proofs.Leaves.{plain-known, open-known, event-never, plus-known, minus-known}
 use Rattle.evaluate.proofs.first.Reads as first
 use Rattle.evaluate.proofs.known_bound.Reads as known-bound
-use Rattle.evaluate.proofs.+clause_times+failure+first+first_within+happening+known_bound+leaf_failure+leaf_occurrence+occurrence+stage_time.Lts-known_bound as lts
-use Rattle.evaluate.proofs.+clause_times+failure+first+first_within+happening+known_bound+leaf_failure+leaf_occurrence+occurrence+stage_time.Proof.Measures.{known-bound-entry, first-below}
+use Rattle.evaluate.proofs.+clause_times+count_times+failure+first+first_within+happening+known_bound+leaf_failure+leaf_occurrence+occurrence+stage_time.Lts-known_bound as lts
+use Rattle.evaluate.proofs.+clause_times+count_times+failure+first+first_within+happening+known_bound+leaf_failure+leaf_occurrence+occurrence+stage_time.Proof.Measures.{known-bound-entry, first-below}
 
 -- what the callees ask and promise
 abbrev claims : ℕ → lts.Claims

@@ -11,8 +11,8 @@ use Rattle.evaluate.proofs.Happens.{happens-not, happens-kind, happens-
 use Rattle.marks.proofs.correlates.Reads as correlates
 use Rattle.evaluate.proofs.stage_time.Reads as stage-time
 use Rattle.evaluate.proofs.happening.Reads as happening
-use Rattle.evaluate.proofs.+clause_times+failure+first+first_within+happening+known_bound+leaf_failure+leaf_occurrence+occurrence+stage_time.Lts-happening as lts
-use Rattle.evaluate.proofs.+clause_times+failure+first+first_within+happening+known_bound+leaf_failure+leaf_occurrence+occurrence+stage_time.Proof.Measures.{happening-entry, stage-time-below}
+use Rattle.evaluate.proofs.+clause_times+count_times+failure+first+first_within+happening+known_bound+leaf_failure+leaf_occurrence+occurrence+stage_time.Lts-happening as lts
+use Rattle.evaluate.proofs.+clause_times+count_times+failure+first+first_within+happening+known_bound+leaf_failure+leaf_occurrence+occurrence+stage_time.Proof.Measures.{happening-entry, stage-time-below}
 
 -- what the callees ask and promise
 abbrev claims : ℕ → lts.Claims

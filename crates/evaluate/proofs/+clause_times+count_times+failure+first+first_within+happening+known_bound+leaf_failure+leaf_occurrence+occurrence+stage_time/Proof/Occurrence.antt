@@ -12,16 +12,17 @@ use Rattle.fields.specs.Decoded.{ExpressionAt}
 use Rattle.fields.proofs.expression_at.Reads as expression-at
 use Rattle.index.specs.Chains.{Ready}
 use Rattle.evaluate.specs.Seen.{Posed}
-use Rattle.evaluate.proofs.Expressions.{expression-as, leaf-times, and-times, or-times, except-times, always-times, nothing-times}
+use Rattle.evaluate.proofs.Expressions.{expression-as, leaf-times, count-as, and-times, or-times, except-times, always-times, nothing-times}
 use Rattle.evaluate.proofs.failure.Reads as failure
+use Rattle.evaluate.proofs.count_times.Reads as count-times
 use Rattle.evaluate.proofs.leaf_occurrence.Reads as leaf-occurrence
 use Rattle.evaluate.proofs.occurrence.Reads as occurrence
-use Rattle.evaluate.proofs.+clause_times+failure+first+first_within+happening+known_bound+leaf_failure+leaf_occurrence+occurrence+stage_time.Lts-occurrence as lts
-use Rattle.evaluate.proofs.+clause_times+failure+first+first_within+happening+known_bound+leaf_failure+leaf_occurrence+occurrence+stage_time.Proof.Measures.{occurrence-entry, failure-below, leaf-occurrence-below, occurrence-below}
+use Rattle.evaluate.proofs.+clause_times+count_times+failure+first+first_within+happening+known_bound+leaf_failure+leaf_occurrence+occurrence+stage_time.Lts-occurrence as lts
+use Rattle.evaluate.proofs.+clause_times+count_times+failure+first+first_within+happening+known_bound+leaf_failure+leaf_occurrence+occurrence+stage_time.Proof.Measures.{occurrence-entry, failure-below, leaf-occurrence-below, occurrence-below, count-times-below}
 
 -- what the callees ask and promise
 abbrev claims : ℕ → lts.Claims
-claims t = (expression-at.Asked, expression-at.Learnt, leaf-occurrence-below t, leaf-occurrence.Post, occurrence-below t, occurrence.Post, later-of.Asked, later-of.Learnt, earlier-of.Asked, earlier-of.Learnt, failure-below t, failure.Post)
+claims t = (expression-at.Asked, expression-at.Learnt, leaf-occurrence-below t, leaf-occurrence.Post, count-times-below t, count-times.Post, occurrence-below t, occurrence.Post, later-of.Asked, later-of.Learnt, earlier-of.Asked, earlier-of.Learnt, failure-below t, failure.Post)
 
 -- what is read at the place, as it is told
 read : (t : ℕ) (c : lts.After-expression-at (claims t) (occurrence-entry t) occurrence.Post) (x : Expression) → c .expression-at .result ≡ x
@@ -36,42 +37,54 @@ operand t c n h = let p = c .before .before .before .before .pre .1 in (omega ar
 
 leaf-returns : (t : ℕ) → lts.Need-returns (claims t) (occurrence-entry t) occurrence.Post
 leaf-returns t c =
-    let a = c .before .before .before .before .before .before .before .before .args in
-    rw (leaf-times (a .terms .now) (a .log .now) (a .clause .rank) (a .clause .subject) (read t (c .before .before .before .before) _ (c .before .before .leaf .given .1))) (c .leaf-occurrence .ensures)
+    let told = c .before .before in
+    let read-here = told .before .before .before .before .before in
+    let a = read-here .before .before .before .before .args in
+    rw (leaf-times (a .terms .now) (a .log .now) (a .clause .rank) (a .clause .subject) (read t read-here _ (told .before .before .before .atom .given .1)) (told .atom2 .given .1)) (c .leaf-occurrence .ensures)
 
-and-returns : (t : ℕ) → lts.Need-returns-2 (claims t) (occurrence-entry t) occurrence.Post
+count-returns : (t : ℕ) → lts.Need-returns-2 (claims t) (occurrence-entry t) occurrence.Post
+count-returns t c =
+    let told = c .before .before in
+    let read-here = told .before .before .before .before .before in
+    let a = read-here .before .before .before .before .args in
+    rw (count-as (a .terms .now) (a .log .now) (a .clause .rank) (a .clause .subject) (read t read-here _ (told .before .before .before .atom .given .1)) (told .atom3 .given .1), c .count-times .ensures)
+
+and-returns : (t : ℕ) → lts.Need-returns-3 (claims t) (occurrence-entry t) occurrence.Post
 unfolding andOf
 and-returns t c =
     let a = c .before .before .before .before .before .before .before .before .before .before .args in
     let j = read t (c .before .before .before .before .before .before) _ (c .before .before .before .before .second .given .1) in
     rw (and-times (a .terms .now) (a .log .now) (a .clause .rank) (a .clause .subject) (j .0), c .later-of .ensures, c .before .before .occurrence .ensures, c .before .occurrence2 .ensures)
 
-or-returns : (t : ℕ) → lts.Need-returns-3 (claims t) (occurrence-entry t) occurrence.Post
+or-returns : (t : ℕ) → lts.Need-returns-4 (claims t) (occurrence-entry t) occurrence.Post
 unfolding orOf
 or-returns t c =
     let a = c .before .before .before .before .before .before .before .before .before .before .args in
     let j = read t (c .before .before .before .before .before .before) _ (c .before .before .before .before .second2 .given .1) in
     rw (or-times (a .terms .now) (a .log .now) (a .clause .rank) (a .clause .subject) (j .0), c .earlier-of .ensures, c .before .before .occurrence3 .ensures, c .before .occurrence4 .ensures)
 
-except-returns : (t : ℕ) → lts.Need-returns-4 (claims t) (occurrence-entry t) occurrence.Post
+except-returns : (t : ℕ) → lts.Need-returns-5 (claims t) (occurrence-entry t) occurrence.Post
 unfolding exceptOf
 except-returns t c =
     let a = c .before .before .before .before .before .before .before .before .before .before .args in
     let j = read t (c .before .before .before .before .before .before) _ (c .before .before .before .before .second3 .given .1) in
     rw (except-times (a .terms .now) (a .log .now) (a .clause .rank) (a .clause .subject) (j .0), c .later-of2 .ensures, c .before .before .occurrence5 .ensures, c .before .failure .ensures)
 
-always-returns : (t : ℕ) → lts.Need-returns-5 (claims t) (occurrence-entry t) occurrence.Post
+always-returns : (t : ℕ) → lts.Need-returns-6 (claims t) (occurrence-entry t) occurrence.Post
 always-returns t c =
     let a = c .before .before .before .before .before .before .args in
     rw (always-times (a .terms .now) (a .log .now) (a .clause .rank) (a .clause .subject) (read t (c .before .before) _ (c .enum-told .given .1)))
 
-nothing-returns : (t : ℕ) → lts.Need-returns-6 (claims t) (occurrence-entry t) occurrence.Post
+nothing-returns : (t : ℕ) → lts.Need-returns-7 (claims t) (occurrence-entry t) occurrence.Post
 nothing-returns t c =
     let a = c .before .before .before .before .before .before .args in
     rw (nothing-times (a .terms .now) (a .log .now) (a .clause .rank) (a .clause .subject) (read t (c .before .before) _ (c .enum-told2 .given .1)))
 
 pub occurrence-closed : {M : Type 1} (t : ℕ) → lts.Closed (claims t) (occurrence-entry t) occurrence.Post M
 occurrence-closed t = lts.spec (claims t) (occurrence-entry t) occurrence.Post
+    (λ c κs. search needs)
+    (λ c. search needs)
+    (λ c. search needs)
     (λ c κs. search needs)
     (λ c. search needs)
     (λ c κs. search needs)
@@ -96,6 +109,7 @@ occurrence-closed t = lts.spec (claims t) (occurrence-entry t) occurrence.Post
     (λ c. search needs)
     (λ c. search needs)
     (leaf-returns t)
+    (count-returns t)
     (and-returns t)
     (or-returns t)
     (except-returns t)

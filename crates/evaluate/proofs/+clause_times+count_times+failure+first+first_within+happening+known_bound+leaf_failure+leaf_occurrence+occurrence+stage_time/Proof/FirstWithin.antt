@@ -25,8 +25,8 @@ use Rattle.evaluate.proofs.Scan.{Scanned, scan-none, scan-start, scan-t
 use Rattle.marks.proofs.mark_of.Reads as mark-of
 use Rattle.evaluate.proofs.happening.Reads as happening
 use Rattle.evaluate.proofs.first_within.Reads as first-within
-use Rattle.evaluate.proofs.+clause_times+failure+first+first_within+happening+known_bound+leaf_failure+leaf_occurrence+occurrence+stage_time.Lts-first_within as lts
-use Rattle.evaluate.proofs.+clause_times+failure+first+first_within+happening+known_bound+leaf_failure+leaf_occurrence+occurrence+stage_time.Proof.Measures.{first-within-entry, happening-below}
+use Rattle.evaluate.proofs.+clause_times+count_times+failure+first+first_within+happening+known_bound+leaf_failure+leaf_occurrence+occurrence+stage_time.Lts-first_within as lts
+use Rattle.evaluate.proofs.+clause_times+count_times+failure+first+first_within+happening+known_bound+leaf_failure+leaf_occurrence+occurrence+stage_time.Proof.Measures.{first-within-entry, happening-below}
 
 -- what the callees ask and promise
 abbrev claims : ℕ → lts.Claims

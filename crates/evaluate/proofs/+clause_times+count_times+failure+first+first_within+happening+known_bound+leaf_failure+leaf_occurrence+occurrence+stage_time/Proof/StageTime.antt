@@ -24,8 +24,8 @@ use Rattle.evaluate.proofs.Expressions.{stage-here}
 use Rattle.table.proofs.norm_type.Reads as norm-type
 use Rattle.evaluate.proofs.clause_times.Reads as clause-times
 use Rattle.evaluate.proofs.stage_time.Reads as stage-time
-use Rattle.evaluate.proofs.+clause_times+failure+first+first_within+happening+known_bound+leaf_failure+leaf_occurrence+occurrence+stage_time.Lts-stage_time as lts
-use Rattle.evaluate.proofs.+clause_times+failure+first+first_within+happening+known_bound+leaf_failure+leaf_occurrence+occurrence+stage_time.Proof.Measures.{weight, stage-time-entry, clause-times-below}
+use Rattle.evaluate.proofs.+clause_times+count_times+failure+first+first_within+happening+known_bound+leaf_failure+leaf_occurrence+occurrence+stage_time.Lts-stage_time as lts
+use Rattle.evaluate.proofs.+clause_times+count_times+failure+first+first_within+happening+known_bound+leaf_failure+leaf_occurrence+occurrence+stage_time.Proof.Measures.{weight, stage-time-entry, clause-times-below}
 
 -- what the callees ask and promise
 abbrev claims : ℕ → lts.Claims

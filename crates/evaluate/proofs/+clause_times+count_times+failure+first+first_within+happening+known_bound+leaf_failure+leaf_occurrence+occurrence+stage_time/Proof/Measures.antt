@@ -8,6 +8,8 @@ use Rattle.times.specs.declared.Needed.{Needed}
 use Rattle.times.specs.declared.Needed.the-variants.{Neither, Occurrence, Failure, Both}
 use Rattle.evaluate.proofs.clause_times.Reads as clause-times
 use Rattle.evaluate.proofs.clause_times.Kinds as clause-times-kinds
+use Rattle.evaluate.proofs.count_times.Reads as count-times
+use Rattle.evaluate.proofs.count_times.Kinds as count-times-kinds
 use Rattle.evaluate.proofs.failure.Reads as failure
 use Rattle.evaluate.proofs.failure.Kinds as failure-kinds
 use Rattle.evaluate.proofs.first.Reads as first
@@ -36,6 +38,9 @@ weight Both k = k * 512 + 300
 
 abbrev pub μ-clause-times : Measures 3 clause-times-kinds.ps ℕ
 μ-clause-times κs a = weight (a .1 .1 .1 .1 .0) (a .1 .1 .1 .0 .rank)
+
+abbrev pub μ-count-times : Measures 3 count-times-kinds.ps ℕ
+μ-count-times κs a = a .1 .1 .1 .0 .rank * 512 + 8
 
 abbrev pub μ-failure : Measures 3 failure-kinds.ps ℕ
 μ-failure κs a = a .1 .1 .1 .0 .rank * 512 + a .1 .1 .1 .1 .1 .0 * 8 + 9
@@ -69,6 +74,12 @@ clause-times-entry t = and 3 clause-times-kinds.ps (is 3 clause-times-kinds.ps �
 
 abbrev pub clause-times-below : ℕ → In 3 clause-times-kinds.ps
 clause-times-below t = and 3 clause-times-kinds.ps (falls 3 clause-times-kinds.ps _<_ μ-clause-times t) clause-times.Pre
+
+abbrev pub count-times-entry : ℕ → In 3 count-times-kinds.ps
+count-times-entry t = and 3 count-times-kinds.ps (is 3 count-times-kinds.ps μ-count-times t) count-times.Pre
+
+abbrev pub count-times-below : ℕ → In 3 count-times-kinds.ps
+count-times-below t = and 3 count-times-kinds.ps (falls 3 count-times-kinds.ps _<_ μ-count-times t) count-times.Pre
 
 abbrev pub failure-entry : ℕ → In 3 failure-kinds.ps
 failure-entry t = and 3 failure-kinds.ps (is 3 failure-kinds.ps μ-failure t) failure.Pre

@@ -6,8 +6,8 @@ use Rattle.evaluate.proofs.Leaves.{occurs-no-lower, occurs-no-upper, oc
 use Rattle.evaluate.proofs.first_within.Reads as first-within
 use Rattle.evaluate.proofs.known_bound.Reads as known-bound
 use Rattle.evaluate.proofs.leaf_occurrence.Reads as leaf-occurrence
-use Rattle.evaluate.proofs.+clause_times+failure+first+first_within+happening+known_bound+leaf_failure+leaf_occurrence+occurrence+stage_time.Lts-leaf_occurrence as lts
-use Rattle.evaluate.proofs.+clause_times+failure+first+first_within+happening+known_bound+leaf_failure+leaf_occurrence+occurrence+stage_time.Proof.Measures.{leaf-occurrence-entry, first-within-below, known-bound-below}
+use Rattle.evaluate.proofs.+clause_times+count_times+failure+first+first_within+happening+known_bound+leaf_failure+leaf_occurrence+occurrence+stage_time.Lts-leaf_occurrence as lts
+use Rattle.evaluate.proofs.+clause_times+count_times+failure+first+first_within+happening+known_bound+leaf_failure+leaf_occurrence+occurrence+stage_time.Proof.Measures.{leaf-occurrence-entry, first-within-below, known-bound-below}
 
 -- what the callees ask and promise
 abbrev claims : ℕ → lts.Claims
