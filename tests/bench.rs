@@ -54,8 +54,10 @@ fn reports() {
     let title = "Reports, by log length.";
     head(title, REPORT, &["plain", "tables"], "growth");
     let (sample, citing, chain) = (shares::sample(), shares::citing(), shares::chained());
+    let counting = shares::counting();
     report_lines("sample share", &sample, ROOM, &ALL);
     report_lines("sample share, exact page", &sample, Page::Exact, &ALL);
+    report_lines("a count of writes", &counting, ROOM, &ALL);
     report_lines("one cites another", &citing, ROOM, &ALL);
     report_lines("one cites another, exact page", &citing, Page::Exact, &ALL);
     report_lines("chain of three", &chain, ROOM, &ALL);

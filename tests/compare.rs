@@ -18,7 +18,8 @@ use std::sync::atomic::{AtomicU32, Ordering};
 use std::time::Instant;
 use tally::{Tally, APPEND, CALLS, CHECK_LOG, CHECK_TERMS, LISTING, REPORT, STANDING};
 
-/// From so many cases on, each refusal, both halves of demand 3 and each kind of listing have to come up.
+/// From so many cases on, each refusal, both halves of demand 3, each kind of listing and both outcomes of a count have
+/// to come up.
 const ENOUGH: u64 = 20_000;
 /// How many differences are printed whole.
 const SHOWN: u32 = 5;
@@ -107,6 +108,7 @@ impl Worker<'_> {
         let mut random = Random::new(seed);
         let case = generate::any(&mut random);
         self.tally.cases += 1;
+        self.tally.counts.add(&case);
         self.checks(&case);
         self.reports(&mut random, &case);
         self.standing(&case);

@@ -1,6 +1,7 @@
 //! Cases drawn at random from a seed: terms and logs that are accepted, and such as every refusal names.
 
 mod cost;
+mod counts;
 mod damage;
 mod events;
 mod input;

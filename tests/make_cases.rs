@@ -10,12 +10,13 @@ mod tally;
 
 use generate::{Case, Random, NOISE, SMALL};
 use std::io::Write;
+use tally::Counts;
 
 const SEED: u64 = 20_261_116;
 const CASES: u32 = 3_200;
 const SIZE_LIMIT: usize = 2_200_000;
 /// The large cases but for those of many rows, which come last.
-const LONG: u32 = 8;
+const LONG: u32 = 9;
 const NOT_YET: u32 = u32::MAX;
 
 /// What the reading program, crates/compare, has room for.
@@ -28,14 +29,16 @@ fn main() {
     let mut random = Random::new(SEED);
     let mut output = CASES.to_le_bytes().to_vec();
     let mut numbers = [[0; 17]; 5];
+    let mut counts = Counts::default();
     let mut long = 0;
     for place in 0..CASES {
-        let written = loop {
+        let (case, written) = loop {
             let case = drawn(&mut random, place);
             if let Some(written) = written(&case) {
-                break written;
+                break (case, written);
             }
         };
+        counts.add(&case);
         for (counts, number) in numbers.iter_mut().zip(written.numbers) {
             counts[number as usize] += 1;
         }
@@ -47,9 +50,9 @@ fn main() {
         "{} bytes, {long} long cases",
         output.len()
     );
-    let missed = tally::unanswered(&numbers);
-    assert!(missed.is_empty(), "never answered: {}", missed.join(", "));
-    eprint!("{}", tally::spread(&numbers));
+    let missed = [tally::unanswered(&numbers), counts.missed()].concat();
+    assert!(missed.is_empty(), "never came up: {}", missed.join(", "));
+    eprintln!("{}{counts}", tally::spread(&numbers));
     eprintln!("{CASES} cases, {long} long ones, {} bytes", output.len());
     std::io::stdout()
         .write_all(&output)

@@ -126,6 +126,11 @@ fn leaf(event: [u8; 2], lower: [u8; 7], upper: [u8; 7]) -> Vec<u8> {
     [&[3][..], &event, &lower, &upper].concat()
 }
 
+/// More than so many records of a kind.
+fn count(kind: u8, threshold: u32, lower: [u8; 7], upper: [u8; 7]) -> Vec<u8> {
+    [&[8, kind][..], &threshold.to_le_bytes(), &lower, &upper].concat()
+}
+
 fn declared() -> Vec<u8> {
     [
         [1, SHARED, 0x0F, 0, 2],
@@ -137,9 +142,18 @@ fn declared() -> Vec<u8> {
 
 /// Schema 0: no writing for 100 minutes from a revocation on.
 pub fn sample() -> Vec<u8> {
+    prohibiting(leaf([0, WRITTEN], plus([0, REVOKED], 0), plus([0, REVOKED], 100)))
+}
+
+/// The same for a second write, earlier ones counted too.
+pub fn counting() -> Vec<u8> {
+    prohibiting(count(WRITTEN, 1, ZERO, plus([0, REVOKED], 100)))
+}
+
+/// A prohibition of this once a share is revoked.
+fn prohibiting(consequent: Vec<u8>) -> Vec<u8> {
     let revoked = leaf([0, REVOKED], ZERO, OPEN);
-    let written = leaf([0, WRITTEN], plus([0, REVOKED], 0), plus([0, REVOKED], 100));
-    [&declared()[..], &[2, 3, SHARED, 1, 3], &ALWAYS, &revoked, &written].concat()
+    [&declared()[..], &[2, 3, SHARED, 1, 3], &ALWAYS, &revoked, &consequent].concat()
 }
 
 /// Schema 1, for revocations: what follows once schema 0 is violated.

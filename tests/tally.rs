@@ -1,5 +1,7 @@
 //! Counts of what was compared.
 
+use crate::generate::{Case, Terms};
+use crate::second;
 use std::fmt;
 
 /// What is counted apart: the calls, and the listing program.
@@ -35,6 +37,59 @@ impl Half {
     }
 }
 
+/// How many cases' terms have an item 08, and what came of these counts before the cases' moments.
+#[derive(Default)]
+pub struct Counts {
+    terms: u64,
+    with_count: u64,
+    occurred: u64,
+    failed: u64,
+}
+
+impl Counts {
+    pub fn add(&mut self, case: &Case) {
+        let terms = Terms::read(&case.terms);
+        let [occurred, failed] = second::settled_counts(&case.terms, &case.buffer, case.used, case.moment);
+        self.terms += 1;
+        self.with_count += u64::from(terms.is_some_and(|terms| !terms.counts().is_empty()));
+        self.occurred += occurred;
+        self.failed += failed;
+    }
+
+    fn merge(&mut self, other: &Counts) {
+        self.terms += other.terms;
+        self.with_count += other.with_count;
+        self.occurred += other.occurred;
+        self.failed += other.failed;
+    }
+
+    /// What ought to have come up and did not.
+    pub fn missed(&self) -> Vec<String> {
+        let needed = [
+            (3 * self.with_count >= self.terms, "an item 08 in a third of the terms"),
+            (self.occurred > 0, "a count that occurred"),
+            (self.failed > 0, "a count that failed"),
+        ];
+        let missed = needed.iter().filter(|(met, _)| !met);
+        missed.map(|(_, what)| what.to_string()).collect()
+    }
+}
+
+impl fmt::Display for Counts {
+    fn fmt(&self, out: &mut fmt::Formatter) -> fmt::Result {
+        let Counts {
+            terms,
+            with_count,
+            occurred,
+            failed,
+        } = self;
+        write!(
+            out,
+            "item 08: in {with_count} of {terms} terms; {occurred} counts occurred, {failed} failed"
+        )
+    }
+}
+
 #[derive(Default)]
 pub struct Tally {
     pub cases: u64,
@@ -45,6 +100,7 @@ pub struct Tally {
     pub numbers: [[u64; 17]; 5],
     pub lasting: Half,
     pub alike: Half,
+    pub counts: Counts,
     /// Outputs of the listing program: rows, none, refused, bad input.
     pub listings: [u64; 4],
 }
@@ -70,6 +126,7 @@ impl Tally {
         if self.listings.contains(&0) {
             missed.push("a kind of output of the listing program".to_string());
         }
+        missed.extend(self.counts.missed());
         missed
     }
 
@@ -84,6 +141,7 @@ impl Tally {
         }
         self.lasting.merge(&other.lasting);
         self.alike.merge(&other.alike);
+        self.counts.merge(&other.counts);
     }
 }
 
@@ -131,6 +189,7 @@ impl fmt::Display for Tally {
             "listing: {rows} with rows, {none} without, {refused} refused, {bad} bad input"
         )?;
         writeln!(out, "rows compared: {}", self.rows)?;
+        writeln!(out, "{}", self.counts)?;
         for (name, half) in [("first", &self.lasting), ("second", &self.alike)] {
             let Half {
                 tried,

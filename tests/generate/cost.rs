@@ -42,7 +42,7 @@ impl Table<'_> {
         self.counts.get(usize::from(kind)).copied().unwrap_or(0)
     }
 
-    /// A failure asks twice for the event: before the upper bound, and within the window.
+    /// A failure asks twice for the event: before the upper bound, and within the window. A count asks once for either.
     fn leaf(&self, leaf: &Leaf, subject: u8) -> Cost {
         let bound = |bound: Bound| {
             if matches!(bound.sign, 1 | 2) {
@@ -53,9 +53,10 @@ impl Table<'_> {
         };
         let event = self.event(leaf.event, subject);
         let occurs = sum(&[event, bound(leaf.lower), bound(leaf.upper)]);
+        let again = if leaf.threshold.is_some() { 0 } else { event };
         Cost {
             occurs,
-            fails: sum(&[occurs, event]),
+            fails: sum(&[occurs, again]),
         }
     }
 

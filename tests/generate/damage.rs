@@ -2,7 +2,7 @@
 
 use super::log::Record;
 use super::random::Random;
-use super::terms::{attributes, rank, tree, Event, Item, Kind, Leaf, Schema, Terms, HIGHEST, NO_EVENT};
+use super::terms::{attributes, rank, tree, Bound, Event, Item, Kind, Leaf, Schema, Terms, HIGHEST, OPEN};
 
 /// Refusals 3 to 5: faults that leave the grammar whole.
 pub fn terms(random: &mut Random, terms: &mut Terms, aim: u32) {
@@ -25,6 +25,7 @@ fn field(random: &mut Random, terms: &mut Terms) {
         _ => {
             let kinds = terms.kinds.len() as u8;
             match pick_leaf(random, terms) {
+                Some((_, leaf)) if leaf.threshold.is_some() && random.one_in(2) => count_field(random, leaf, kinds),
                 Some((_, leaf)) => leaf_field(random, leaf, kinds),
                 None => head_field(random, terms, schema),
             }
@@ -32,8 +33,11 @@ fn field(random: &mut Random, terms: &mut Terms) {
     }
 }
 
+/// One of the leaves; now and then it has to be a count, if there is one.
 fn pick_leaf<'a>(random: &mut Random, terms: &'a mut Terms) -> Option<(usize, &'a mut Leaf)> {
+    let only_counts = random.one_in(3) && !terms.counts().is_empty();
     let mut leaves = terms.leaves();
+    leaves.retain(|(_, leaf)| !only_counts || leaf.threshold.is_some());
     if leaves.is_empty() {
         None
     } else {
@@ -67,6 +71,15 @@ fn head_field(random: &mut Random, terms: &mut Terms, number: usize) {
     }
 }
 
+/// What only a count can have wrong, or has in another place than a leaf: an open end, its kind.
+fn count_field(random: &mut Random, count: &mut Leaf, kinds: u8) {
+    match random.below(4) {
+        0 => count.lower = OPEN,
+        1 => count.event.number = random.pick(&[kinds, kinds + 1, 255]),
+        _ => count.upper = OPEN,
+    }
+}
+
 fn leaf_field(random: &mut Random, leaf: &mut Leaf, kinds: u8) {
     let wrong = match random.below(3) {
         0 => Event {
@@ -82,10 +95,10 @@ fn leaf_field(random: &mut Random, leaf: &mut Leaf, kinds: u8) {
     place_event(random, leaf, wrong);
 }
 
-/// Puts an event in the leaf itself or in one of its bounds.
+/// Puts an event in the leaf itself or in one of its bounds; a count itself has room for a kind only.
 fn place_event(random: &mut Random, leaf: &mut Leaf, event: Event) {
     let bound = match random.below(3) {
-        0 => {
+        0 if event.form == 0 || leaf.threshold.is_none() => {
             leaf.event = event;
             return;
         }
@@ -103,7 +116,7 @@ fn bound_field(random: &mut Random, leaf: &mut Leaf) {
     let bound = if lower { &mut leaf.lower } else { &mut leaf.upper };
     match random.below(8) {
         0 => bound.sign = random.pick(&[4, 5, 128, 255]),
-        1 if lower => (bound.sign, bound.event, bound.offset) = (3, NO_EVENT, 0),
+        1 if lower => *bound = OPEN,
         1..=3 => {
             bound.sign = if bound.sign == 3 { 0 } else { bound.sign };
             bound.offset = random.pick(&[HIGHEST + 1, HIGHEST + 1, HIGHEST + 1, u32::MAX, HIGHEST]);
@@ -173,19 +186,16 @@ fn nothing_shared(random: &mut Random, terms: &mut Terms) {
 }
 
 fn citing_schema(random: &mut Random, subject: u8, party: u8, cited: u8) -> Schema {
-    let open = super::terms::Bound {
-        sign: 3,
-        event: NO_EVENT,
-        offset: 0,
-    };
-    let zero = super::terms::Bound { sign: 0, ..open };
+    let zero = Bound { sign: 0, ..OPEN };
+    let threshold = random.one_in(2).then_some(0);
     let mut leaf = Leaf {
         event: Event {
             form: 0,
             number: subject,
         },
         lower: zero,
-        upper: open,
+        upper: if threshold.is_some() { zero } else { OPEN },
+        threshold,
     };
     let stage = Event {
         form: random.between(1, 5) as u8,
@@ -248,23 +258,27 @@ fn ends(random: &mut Random, mut bytes: Vec<u8>) -> Vec<u8> {
     match random.below(5) {
         0 => bytes.truncate(random.index(bytes.len())),
         1 => bytes.truncate(bytes.len() - 1),
-        2 => bytes.push(random.pick(&[0, 1, 2, 3, 4, 7, 8, 255])),
+        2 => bytes.push(random.pick(&[0, 1, 2, 3, 4, 7, 8, 9, 255])),
         3 => bytes.extend([1, 0, 1, 0, 0]),
         _ => bytes.clear(),
     }
     bytes
 }
 
+/// Bytes that no item begins with.
+const UNKNOWN: [u8; 5] = [0, 9, 10, 16, 255];
+
 fn items(random: &mut Random, terms: &Terms) -> Vec<Vec<u8>> {
     let mut items = terms.items();
     let place = random.index(items.len());
     let other = items[random.index(items.len())].clone();
-    match random.below(6) {
-        0 => items.insert(place, vec![random.pick(&[0, 8, 9, 16, 255])]),
-        1 => items[place][0] = random.pick(&[0, 8, 9, 16, 255]),
+    match random.below(7) {
+        0 => items.insert(place, vec![random.pick(&UNKNOWN)]),
+        1 => items[place][0] = random.pick(&UNKNOWN),
         2 => drop(items.remove(place)),
         3 => items.insert(place, other),
         4 => items[place] = other,
+        5 => body(random, &mut items),
         _ => {
             let kinds = terms.kinds.len();
             let at = kinds + random.index(items.len() - kinds + 1);
@@ -272,6 +286,22 @@ fn items(random: &mut Random, terms: &Terms) -> Vec<Vec<u8>> {
         }
     }
     items
+}
+
+/// Makes a leaf a byte shorter or longer, or gives it the byte of the other sort of leaf.
+fn body(random: &mut Random, items: &mut [Vec<u8>]) {
+    let leaves = items.iter_mut().filter(|item| matches!(item[0], 3 | 8));
+    let mut leaves: Vec<&mut Vec<u8>> = leaves.collect();
+    if leaves.is_empty() {
+        return;
+    }
+    let place = random.index(leaves.len());
+    let leaf = &mut leaves[place];
+    match random.below(4) {
+        0 | 1 => drop(leaf.pop()),
+        2 => leaf.push(0),
+        _ => leaf[0] = if leaf[0] == 3 { 8 } else { 3 },
+    }
 }
 
 /// Refusals 7 to 9: faults of records.

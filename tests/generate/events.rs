@@ -1,5 +1,6 @@
 //! Events for append calls: accepted ones and such as refusals 11 to 14 name.
 
+use super::counts;
 use super::log::{Drawer, Record};
 use super::random::Random;
 use super::terms::{Terms, HIGHEST};
@@ -42,6 +43,12 @@ impl State<'_> {
 
     fn next(&mut self, random: &mut Random) -> Record {
         let last = self.last();
+        let target = counts::target(random, self.terms, &self.records);
+        if let Some(target) = target.filter(|_| random.one_in(3)) {
+            let record = target.inside(random, &mut self.drawer);
+            let stamp = record.stamp.max(last);
+            return Record { stamp, ..record };
+        }
         let later = last.saturating_add(random.below(10)).min(HIGHEST);
         let stamp = match random.below(4) {
             0 => last,

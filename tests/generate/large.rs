@@ -1,12 +1,14 @@
-//! Cases at the limits of 16,384 and 32,768 bytes.
+//! Cases at the limits of 16,384 and 32,768 bytes, and the longest terms that are accepted.
 
 use super::log::{self, Record};
 use super::random::Random;
-use super::terms::{self, Bound, Event, Item, Kind, Leaf, Schema, Terms, NO_EVENT};
+use super::terms::{self, Bound, Event, Item, Kind, Leaf, Schema, Terms, OPEN};
 use super::{Case, Fork, Page, Size, LOG_LIMIT, SMALL, TERMS_LIMIT};
 
 /// How many large cases there are.
-pub const LARGE: u32 = 10;
+pub const LARGE: u32 = 11;
+/// The length of the longest terms that keep the grammar.
+const LONGEST: usize = 16_320;
 
 /// Long terms, then long logs, then many rows.
 pub fn large(random: &mut Random, which: u32) -> Case {
@@ -14,12 +16,13 @@ pub fn large(random: &mut Random, which: u32) -> Case {
         0 => long_terms(random, &SMALL, TERMS_LIMIT + 1),
         1 => long_terms(random, &SMALL, TERMS_LIMIT + 16),
         2 => long_terms(random, &SMALL, TERMS_LIMIT),
-        3 => long_log(random, LOG_LIMIT - 9, LOG_LIMIT),
-        4 => long_log(random, LOG_LIMIT - 8, LOG_LIMIT + 32),
-        5 => long_log(random, LOG_LIMIT - 9, LOG_LIMIT + 32),
-        6 => long_log(random, LOG_LIMIT, LOG_LIMIT),
-        7 => long_log(random, LOG_LIMIT + 1, LOG_LIMIT + 1),
-        8 => full_page(random, true),
+        3 => longest_terms(random),
+        4 => long_log(random, LOG_LIMIT - 9, LOG_LIMIT),
+        5 => long_log(random, LOG_LIMIT - 8, LOG_LIMIT + 32),
+        6 => long_log(random, LOG_LIMIT - 9, LOG_LIMIT + 32),
+        7 => long_log(random, LOG_LIMIT, LOG_LIMIT),
+        8 => long_log(random, LOG_LIMIT + 1, LOG_LIMIT + 1),
+        9 => full_page(random, true),
         _ => full_page(random, false),
     }
 }
@@ -31,6 +34,56 @@ fn long_terms(random: &mut Random, size: &Size, length: usize) -> Case {
     let mut bytes = terms.bytes();
     bytes.resize(length, random.pick(&[0, 7, 255]));
     plain(random, bytes, &records, 0)
+}
+
+/// Terms with as much of everything as there may be, and a count wherever one can stand; few records.
+fn longest_terms(random: &mut Random) -> Case {
+    let kinds = (0..32).map(|number| Kind {
+        number,
+        mask: 3,
+        key: 1,
+    });
+    let schemas = (0..16).map(|_| Schema {
+        norm: random.between(1, 4) as u8,
+        subject: 0,
+        privileged: 0,
+        liable: 1,
+        clauses: [0; 3].map(|_| most_counts(random)),
+    });
+    let terms = Terms {
+        kinds: kinds.collect(),
+        schemas: schemas.collect(),
+    };
+    let bytes = terms.bytes();
+    assert!(bytes.len() == LONGEST, "{} bytes", bytes.len());
+    let records = [(0, 0), (1, 5), (2, 5), (1, 20)].map(|(kind, stamp)| Record {
+        kind,
+        stamp,
+        values: vec![1, stamp + 1],
+    });
+    plain(random, bytes, &records, 0)
+}
+
+/// An expression of as many counts as there may be.
+fn most_counts(random: &mut Random) -> Vec<Item> {
+    let mut items = Vec::new();
+    terms::tree(random, 16, &mut items, &mut |random| {
+        let mut plain = |end| Bound {
+            sign: 0,
+            offset: random.below(end),
+            ..OPEN
+        };
+        Item::Leaf(Leaf {
+            lower: plain(8),
+            upper: plain(40),
+            event: Event {
+                form: 0,
+                number: random.below(3) as u8,
+            },
+            threshold: Some(random.below(2)),
+        })
+    });
+    items
 }
 
 fn long_log(random: &mut Random, used: usize, buffer: usize) -> Case {
@@ -76,16 +129,9 @@ fn full_page(random: &mut Random, fits: bool) -> Case {
     let mut terms = fillers();
     let never = Item::Leaf(Leaf {
         event: Event { form: 0, number: 0 },
-        lower: Bound {
-            sign: 0,
-            event: NO_EVENT,
-            offset: 0,
-        },
-        upper: Bound {
-            sign: 3,
-            event: NO_EVENT,
-            offset: 0,
-        },
+        lower: Bound { sign: 0, ..OPEN },
+        upper: OPEN,
+        threshold: None,
     });
     let detach = if fits { never } else { Item::Always };
     let clauses = [vec![Item::Always], vec![detach], vec![never]];

@@ -1,7 +1,8 @@
 //! Logs as values: records drawn at random so that they often correlate and often lie at the edges of windows.
 
+use super::counts;
 use super::random::Random;
-use super::terms::{Item, Kind, Terms, HIGHEST};
+use super::terms::{attributes, Item, Kind, Terms, HIGHEST};
 use super::Size;
 use std::collections::HashSet;
 
@@ -18,6 +19,14 @@ impl Record {
         bytes.extend(self.stamp.to_le_bytes());
         bytes.extend(self.values.iter().flat_map(|value| value.to_le_bytes()));
         bytes
+    }
+
+    pub fn correlates(&self, other: &Record, terms: &Terms) -> bool {
+        let [one, two] = [self, other].map(|record| &terms.kinds[usize::from(record.kind)]);
+        let common = attributes(one.mask & two.mask);
+        common
+            .iter()
+            .all(|&attribute| self.values[one.place(attribute)] == other.values[two.place(attribute)])
     }
 }
 
@@ -48,6 +57,7 @@ pub struct Drawer<'a> {
     /// The offsets of the terms; stamps lie so far apart, or one off.
     offsets: Vec<u32>,
     subjects: Vec<u8>,
+    counted: Vec<u8>,
     spread: u32,
     taken: HashSet<(u8, u32)>,
 }
@@ -62,10 +72,12 @@ impl<'a> Drawer<'a> {
             }
         }
         let subjects = terms.schemas.iter().map(|schema| schema.subject).collect();
+        let counted = terms.counts().iter().map(|(_, count)| count.event.number).collect();
         Drawer {
             terms,
             offsets,
             subjects,
+            counted,
             spread: random.between(1, 3),
             taken: HashSet::new(),
         }
@@ -98,29 +110,47 @@ impl<'a> Drawer<'a> {
     }
 
     pub fn kind(&self, random: &mut Random) -> u8 {
-        if random.percent(40) {
-            random.pick(&self.subjects)
-        } else {
-            random.index(self.terms.kinds.len()) as u8
+        match random.below(10) {
+            0..=3 => random.pick(&self.subjects),
+            4 | 5 if !self.counted.is_empty() => random.pick(&self.counted),
+            _ => random.index(self.terms.kinds.len()) as u8,
         }
     }
 
     /// A record whose key is new for its kind.
     pub fn record(&mut self, random: &mut Random, number: u8, stamp: u32) -> Record {
-        let kind: &Kind = &self.terms.kinds[usize::from(number)];
-        let count = kind.mask.count_ones();
-        let mut values: Vec<u32> = (0..count).map(|_| self.value(random)).collect();
-        let key = kind.place(kind.key);
-        let mut more = 0;
-        while !self.taken.insert((number, values[key])) {
-            more += 1;
-            values[key] = random.between(1, self.spread + more);
+        let record = self.draft(random, number, stamp);
+        self.with_new_key(random, record)
+    }
+
+    /// The same with the values of another one, which it correlates with unless that makes its key a repeat.
+    pub fn alike(&mut self, random: &mut Random, number: u8, stamp: u32, other: &Record) -> Record {
+        let mut record = self.draft(random, number, stamp);
+        let [own, theirs] = [number, other.kind].map(|kind| &self.terms.kinds[usize::from(kind)]);
+        for attribute in attributes(own.mask & theirs.mask) {
+            record.values[own.place(attribute)] = other.values[theirs.place(attribute)];
         }
+        self.with_new_key(random, record)
+    }
+
+    fn draft(&self, random: &mut Random, number: u8, stamp: u32) -> Record {
+        let count = self.terms.kinds[usize::from(number)].mask.count_ones();
         Record {
             kind: number,
             stamp,
-            values,
+            values: (0..count).map(|_| self.value(random)).collect(),
         }
+    }
+
+    fn with_new_key(&mut self, random: &mut Random, mut record: Record) -> Record {
+        let kind: &Kind = &self.terms.kinds[usize::from(record.kind)];
+        let key = kind.place(kind.key);
+        let mut more = 0;
+        while !self.taken.insert((record.kind, record.values[key])) {
+            more += 1;
+            record.values[key] = random.between(1, self.spread + more);
+        }
+        record
     }
 
     /// One of few values, seldom with a bit set in a higher byte.
@@ -134,20 +164,38 @@ impl<'a> Drawer<'a> {
     }
 }
 
-/// Draws a log that is accepted.
+/// Draws a log that is accepted. Where terms count, some of its records are drawn for the windows of counts.
 pub fn rich(random: &mut Random, terms: &Terms, size: &Size) -> Vec<Record> {
     let mut drawer = Drawer::new(random, terms);
     let count = match random.below(100) {
         0..=3 => 0,
         4 if size.large => random.between(size.records, 3 * size.records),
-        _ => random.between(1, size.records),
+        _ if drawer.counted.is_empty() => random.between(1, size.records),
+        _ => random.between(2, 2 * size.records / 3),
     };
     let mut records = Vec::new();
     for stamp in stamps(random, &drawer, count) {
         let kind = drawer.kind(random);
         records.push(drawer.record(random, kind, stamp));
     }
+    for _ in 0..random.between(1, 3) {
+        fill_window(random, &mut drawer, &mut records);
+    }
     records
+}
+
+/// Adds what the window of a count asks for, often with a record just outside it.
+fn fill_window(random: &mut Random, drawer: &mut Drawer, records: &mut Vec<Record>) {
+    let Some(target) = counts::target(random, drawer.terms, records) else {
+        return;
+    };
+    for _ in 0..target.missing {
+        records.push(target.inside(random, drawer));
+    }
+    if random.percent(40) {
+        records.push(target.beside(random, drawer));
+    }
+    records.sort_by_key(|record| record.stamp);
 }
 
 /// Rising stamps with many ties, about half of them at an edge that another one makes; now and then all of them high.

@@ -27,11 +27,13 @@ pub struct Bound {
     pub offset: u32,
 }
 
+/// An item 03, or with a threshold an item 08, which has no form: its event is a kind.
 #[derive(Clone, Copy)]
 pub struct Leaf {
     pub event: Event,
     pub lower: Bound,
     pub upper: Bound,
+    pub threshold: Option<u32>,
 }
 
 #[derive(Clone, Copy)]
@@ -58,6 +60,11 @@ pub struct Terms {
 }
 
 pub const NO_EVENT: Event = Event { form: 0, number: 0 };
+pub const OPEN: Bound = Bound {
+    sign: 3,
+    event: NO_EVENT,
+    offset: 0,
+};
 
 /// The rank of a stage, by its form and its schema's number.
 pub fn rank(stage: Event) -> usize {
@@ -83,15 +90,22 @@ impl Item {
         match self {
             Item::Pair(byte) => vec![*byte],
             Item::Always => vec![7],
-            Item::Leaf(leaf) => {
-                let mut bytes = vec![3, leaf.event.form, leaf.event.number];
-                for bound in [leaf.lower, leaf.upper] {
-                    bytes.extend([bound.sign, bound.event.form, bound.event.number]);
-                    bytes.extend(bound.offset.to_le_bytes());
-                }
-                bytes
-            }
+            Item::Leaf(leaf) => leaf.bytes(),
         }
+    }
+}
+
+impl Leaf {
+    fn bytes(&self) -> Vec<u8> {
+        let mut bytes = match self.threshold {
+            Some(threshold) => [&[8, self.event.number][..], &threshold.to_le_bytes()].concat(),
+            None => vec![3, self.event.form, self.event.number],
+        };
+        for bound in [self.lower, self.upper] {
+            bytes.extend([bound.sign, bound.event.form, bound.event.number]);
+            bytes.extend(bound.offset.to_le_bytes());
+        }
+        bytes
     }
 }
 
@@ -114,7 +128,20 @@ impl Terms {
         self.items().concat()
     }
 
-    /// The leaves, each with the rank of its clause.
+    /// The counts, each with its schema's number.
+    pub fn counts(&self) -> Vec<(usize, &Leaf)> {
+        let schemas = self.schemas.iter().enumerate();
+        let items =
+            schemas.flat_map(|(number, schema)| schema.clauses.iter().flatten().map(move |item| (number, item)));
+        items
+            .filter_map(|(number, item)| match item {
+                Item::Leaf(leaf) if leaf.threshold.is_some() => Some((number, leaf)),
+                _ => None,
+            })
+            .collect()
+    }
+
+    /// The leaves, counts too, each with the rank of its clause.
     pub fn leaves(&mut self) -> Vec<(usize, &mut Leaf)> {
         let clauses = self.schemas.iter_mut().flat_map(|schema| schema.clauses.iter_mut());
         let items = clauses
@@ -133,6 +160,12 @@ impl Terms {
 
     pub fn mask(&self, kind: u8) -> u16 {
         self.kinds.get(usize::from(kind)).map_or(0, |kind| kind.mask)
+    }
+
+    /// Whether a subject can have several records of a kind, since it doesn't carry their key.
+    pub fn recurs(&self, kind: u8, subject: u8) -> bool {
+        let key = self.kinds[usize::from(kind)].key;
+        self.mask(subject) >> key & 1 == 0
     }
 
     /// Terms from bytes that keep the grammar; the fields may hold anything.
@@ -183,6 +216,7 @@ impl<'a> Reader<'a> {
         while missing > 0 {
             items.push(match *self.bytes.first()? {
                 3 => Item::Leaf(leaf_of(self.take(17)?)),
+                8 => Item::Leaf(count_of(self.take(20)?)),
                 byte @ 4..=6 => Item::Pair(self.take(1).map(|_| byte)?),
                 7 => self.take(1).map(|_| Item::Always)?,
                 _ => return None,
@@ -198,21 +232,44 @@ impl<'a> Reader<'a> {
 }
 
 fn leaf_of(item: &[u8]) -> Leaf {
-    let event = |at: usize| Event {
-        form: item[at],
-        number: item[at + 1],
-    };
-    let offset = |at: usize| u32::from_le_bytes([item[at], item[at + 1], item[at + 2], item[at + 3]]);
-    let bound = |at: usize| Bound {
-        sign: item[at],
-        event: event(at + 1),
-        offset: offset(at + 3),
+    Leaf {
+        event: event_at(item, 1),
+        lower: bound_at(item, 3),
+        upper: bound_at(item, 10),
+        threshold: None,
+    }
+}
+
+fn count_of(item: &[u8]) -> Leaf {
+    let event = Event {
+        form: 0,
+        number: item[1],
     };
     Leaf {
-        event: event(1),
-        lower: bound(3),
-        upper: bound(10),
+        event,
+        lower: bound_at(item, 6),
+        upper: bound_at(item, 13),
+        threshold: Some(number_at(item, 2)),
     }
+}
+
+fn event_at(item: &[u8], at: usize) -> Event {
+    Event {
+        form: item[at],
+        number: item[at + 1],
+    }
+}
+
+fn bound_at(item: &[u8], at: usize) -> Bound {
+    Bound {
+        sign: item[at],
+        event: event_at(item, at + 1),
+        offset: number_at(item, at + 3),
+    }
+}
+
+fn number_at(item: &[u8], at: usize) -> u32 {
+    u32::from_le_bytes([item[at], item[at + 1], item[at + 2], item[at + 3]])
 }
 
 /// Draws terms that are accepted. Late ones are chains of schemas, each reaching as far past the one before as it can.
@@ -271,6 +328,8 @@ pub fn kind(random: &mut Random, number: u8, pool: &[u8]) -> Kind {
 /// What the clause being drawn may refer to.
 struct Scope {
     kinds: Vec<u8>,
+    /// Those of which a subject can have several records.
+    recurring: Vec<u8>,
     stages: Vec<Event>,
     late: bool,
 }
@@ -291,7 +350,13 @@ fn scope(terms: &Terms, subject: u8, clause: usize, late: bool) -> Scope {
     if kinds.len() > 1 {
         kinds.extend(kinds.clone().iter().filter(|&&kind| kind != subject));
     }
-    Scope { kinds, stages, late }
+    let recurring = kinds.iter().copied().filter(|&kind| terms.recurs(kind, subject));
+    Scope {
+        recurring: recurring.collect(),
+        kinds,
+        stages,
+        late,
+    }
 }
 
 fn schema(random: &mut Random, terms: &Terms, size: &Size, late: bool) -> Schema {
@@ -353,10 +418,75 @@ pub fn tree(random: &mut Random, operands: u32, items: &mut Vec<Item>, operand: 
     tree(random, operands - left, items, operand);
 }
 
+/// One leaf in four counts; more of them where leaves are late, fewer where no kind recurs.
 fn leaf(random: &mut Random, scope: &Scope) -> Leaf {
-    if scope.late && random.percent(65) {
-        return late_leaf(random, scope);
+    let late = scope.late && random.percent(75);
+    let counts = random.percent(match scope.recurring[..] {
+        _ if late => 40,
+        [] => 10,
+        _ => 25,
+    });
+    let leaf = match (late, counts) {
+        (true, _) => late_leaf(random, scope),
+        (false, true) => closed_leaf(random, scope),
+        (false, false) => usual_leaf(random, scope),
+    };
+    if counts {
+        counting(random, scope, leaf)
+    } else {
+        leaf
     }
+}
+
+/// Few records pass most thresholds; the low byte alone of some of the large ones would be passed as well.
+const THRESHOLDS: [u32; 12] = [0, 0, 0, 0, 0, 1, 1, 1, 2, 2, 3, 4];
+const LARGE_THRESHOLDS: [u32; 6] = [u32::MAX, u32::MAX, 1 << 8, 1 << 16, 1 << 24, 257];
+
+/// The leaf with a threshold, its event a kind that mostly recurs.
+fn counting(random: &mut Random, scope: &Scope, leaf: Leaf) -> Leaf {
+    let kinds = if scope.recurring.is_empty() || random.one_in(8) {
+        &scope.kinds
+    } else {
+        &scope.recurring
+    };
+    let thresholds = if random.one_in(10) {
+        &LARGE_THRESHOLDS[..]
+    } else {
+        &THRESHOLDS
+    };
+    Leaf {
+        event: Event {
+            form: 0,
+            number: random.pick(kinds),
+        },
+        threshold: Some(random.pick(thresholds)),
+        ..leaf
+    }
+}
+
+/// A leaf whose window has an end, often some minutes after its start, or some before the end becomes known.
+fn closed_leaf(random: &mut Random, scope: &Scope) -> Leaf {
+    let leaf = usual_leaf(random, scope);
+    let upper = match random.below(10) {
+        0..=2 => end_after(random, leaf.lower),
+        3 | 4 => bound(random, scope, 2),
+        _ if leaf.upper.sign == OPEN.sign => end_after(random, leaf.lower),
+        _ => leaf.upper,
+    };
+    Leaf { upper, ..leaf }
+}
+
+/// An upper bound some minutes after a lower one.
+fn end_after(random: &mut Random, lower: Bound) -> Bound {
+    let before = if lower.sign == 2 { 0 } else { lower.offset };
+    Bound {
+        sign: lower.sign.min(1),
+        event: lower.event,
+        offset: (before + random.between(1, 25)).min(HIGHEST),
+    }
+}
+
+fn usual_leaf(random: &mut Random, scope: &Scope) -> Leaf {
     let lower_sign = random.pick(&[0, 0, 0, 0, 1, 1, 1, 2, 2]);
     let upper_sign = random.pick(&[3, 3, 3, 0, 0, 1, 1, 1, 1, 2, 2]);
     let mut lower = bound(random, scope, lower_sign);
@@ -368,6 +498,7 @@ fn leaf(random: &mut Random, scope: &Scope) -> Leaf {
         event: event(random, scope),
         lower,
         upper,
+        threshold: None,
     }
 }
 
@@ -392,6 +523,7 @@ fn late_leaf(random: &mut Random, scope: &Scope) -> Leaf {
         event: event(random, scope),
         lower,
         upper,
+        threshold: None,
     }
 }
 

@@ -83,6 +83,7 @@ impl<'a> History<'a> {
             happenings: self.happenings(leaf.event),
             lower: self.edge(&leaf.lower),
             upper: self.edge(&leaf.upper),
+            threshold: leaf.threshold,
         }
     }
 
@@ -135,17 +136,42 @@ struct Window {
     happenings: Vec<u32>,
     lower: Option<Edge>,
     upper: Option<Edge>,
+    /// What a count has to pass.
+    threshold: Option<u32>,
 }
 
 impl Window {
     fn occurred_by(&self, t: u32) -> bool {
+        match self.threshold {
+            Some(threshold) => self.counted_by(t).is_some_and(|count| count > u64::from(threshold)),
+            None => self.entered_by(t),
+        }
+    }
+
+    fn failed_by(&self, t: u32) -> bool {
+        match self.threshold {
+            Some(threshold) => self.counted_by(t).is_some_and(|count| count <= u64::from(threshold)),
+            None => self.missed_by(t),
+        }
+    }
+
+    /// How many happenings the window has; none while it isn't past or a bound isn't known.
+    fn counted_by(&self, t: u32) -> Option<u64> {
+        let lower = self.lower.as_ref().filter(|lower| lower.known_by(t))?;
+        let upper = self.upper.as_ref().filter(|upper| upper.known_by(t))?;
+        let end = upper.minute.filter(|&end| end <= u64::from(t))?;
+        let count = self.before(end).saturating_sub(self.before(lower.minute?));
+        Some(count as u64)
+    }
+
+    fn entered_by(&self, t: u32) -> bool {
         let (Some(lower), Some(upper)) = (&self.lower, &self.upper) else {
             return false;
         };
         lower.known_by(t) && upper.known_by(t) && self.happened_within(lower, upper, t)
     }
 
-    fn failed_by(&self, t: u32) -> bool {
+    fn missed_by(&self, t: u32) -> bool {
         let Some(upper @ Edge { minute: Some(end), .. }) = &self.upper else {
             return false;
         };
@@ -163,9 +189,14 @@ impl Window {
 
     /// The first happening that isn't before the lower bound.
     fn first_from(&self, lower: &Edge) -> Option<u32> {
-        let start = lower.minute.unwrap_or(0);
-        let before = |&happening: &u32| u64::from(happening) < start;
-        self.happenings.get(self.happenings.partition_point(before)).copied()
+        let place = self.before(lower.minute.unwrap_or(0));
+        self.happenings.get(place).copied()
+    }
+
+    /// How many happenings lie before a minute.
+    fn before(&self, minute: u64) -> usize {
+        self.happenings
+            .partition_point(|&happening| u64::from(happening) < minute)
     }
 
     /// The minutes at which an answer about this leaf can turn.

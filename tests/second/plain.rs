@@ -66,14 +66,22 @@ impl Plain<'_> {
         }
     }
 
-    fn leaf_occurrence(&self, leaf: &Leaf, subject: &Record) -> Option<u32> {
+    pub fn leaf_occurrence(&self, leaf: &Leaf, subject: &Record) -> Option<u32> {
+        if let Some(threshold) = leaf.threshold {
+            let (time, passed) = self.verdict(leaf, threshold, subject)?;
+            return passed.then_some(time);
+        }
         let lower = self.known(&leaf.lower, subject)?;
         let upper = self.known(&leaf.upper, subject)?;
         let first = self.earliest(leaf.event, subject, lower.value, upper.value)?;
         Some(first.max(lower.since).max(upper.since))
     }
 
-    fn leaf_failure(&self, leaf: &Leaf, subject: &Record) -> Option<u32> {
+    pub fn leaf_failure(&self, leaf: &Leaf, subject: &Record) -> Option<u32> {
+        if let Some(threshold) = leaf.threshold {
+            let (time, passed) = self.verdict(leaf, threshold, subject)?;
+            return (!passed).then_some(time);
+        }
         if leaf.upper.sign == OPEN {
             return None;
         }
@@ -87,6 +95,18 @@ impl Plain<'_> {
             Some(_) => None,
             None => time(end.max(u64::from(lower.since))),
         }
+    }
+
+    /// When a count is settled, and whether it is passed; none where a bound is unknown, or that is past any time.
+    fn verdict(&self, leaf: &Leaf, threshold: u32, subject: &Record) -> Option<(u32, bool)> {
+        let lower = self.known(&leaf.lower, subject)?;
+        let upper = self.known(&leaf.upper, subject)?;
+        let window = lower.value..upper.value;
+        let records = self.correlated(leaf.event.number, subject);
+        let inside = records.filter(|record| window.contains(&u64::from(record.stamp)));
+        let passed = inside.count() as u64 > u64::from(threshold);
+        let since = lower.since.max(upper.since);
+        Some((time(upper.value.max(u64::from(since)))?, passed))
     }
 
     fn known(&self, bound: &Bound, subject: &Record) -> Option<Known> {
@@ -104,11 +124,7 @@ impl Plain<'_> {
 
     /// The earliest happening from `lower` up to, but not at, `upper`.
     fn earliest(&self, event: Event, subject: &Record, lower: u64, upper: u64) -> Option<u32> {
-        let kind = self.terms.kind_of(event);
-        let correlated = self
-            .records
-            .iter()
-            .filter(|record| record.kind == kind && record.correlates(subject));
+        let correlated = self.correlated(self.terms.kind_of(event), subject);
         let happenings = correlated.filter_map(|record| match event.form {
             KIND => Some(record.stamp),
             stage => self.stage_time(event.number, stage, record),
@@ -116,6 +132,11 @@ impl Plain<'_> {
         happenings
             .filter(|&happening| (lower..upper).contains(&u64::from(happening)))
             .min()
+    }
+
+    fn correlated<'b>(&'b self, kind: u8, subject: &'b Record) -> impl Iterator<Item = &'b Record> {
+        let own = move |record: &&Record| record.kind == kind && record.correlates(subject);
+        self.records.iter().filter(own)
     }
 }
 

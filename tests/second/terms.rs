@@ -54,9 +54,12 @@ pub enum Expr<L> {
 }
 
 pub struct Leaf {
+    /// A kind, where the leaf counts.
     pub event: Event,
     pub lower: Bound,
     pub upper: Bound,
+    /// Where the leaf counts, more records than this have to lie in its window.
+    pub threshold: Option<u32>,
 }
 
 #[derive(Clone, Copy)]
@@ -112,8 +115,10 @@ impl Terms {
             || schema.leaves().any(|(_, leaf)| self.leaf_out_of_range(leaf))
     }
 
+    /// Any threshold is in range.
     fn leaf_out_of_range(&self, leaf: &Leaf) -> bool {
         leaf.lower.sign == OPEN
+            || leaf.threshold.is_some() && leaf.upper.sign == OPEN
             || self.event_out_of_range(leaf.event)
             || self.bound_out_of_range(&leaf.lower)
             || self.bound_out_of_range(&leaf.upper)
@@ -164,6 +169,11 @@ impl Schema {
     fn leaves(&self) -> impl Iterator<Item = (usize, &Leaf)> {
         let clauses = self.clauses.iter().enumerate();
         clauses.flat_map(|(place, clause)| clause.leaves().into_iter().map(move |leaf| (place, leaf)))
+    }
+
+    pub fn counts(&self) -> impl Iterator<Item = &Leaf> {
+        let leaves = self.leaves().map(|(_, leaf)| leaf);
+        leaves.filter(|leaf| leaf.threshold.is_some())
     }
 
     /// Every event of a leaf or bound, with the place of its clause.
@@ -280,6 +290,7 @@ fn read_expr(rest: &mut &[u8], left: &mut usize) -> Option<Expr<Leaf>> {
         0x05 => Some(Expr::Or(read_pair(rest, left)?)),
         0x06 => Some(Expr::Except(read_pair(rest, left)?)),
         0x07 => Some(Expr::Always),
+        0x08 => Some(Expr::Leaf(read_count(rest)?)),
         _ => None,
     }
 }
@@ -293,6 +304,18 @@ fn read_leaf(rest: &mut &[u8]) -> Option<Leaf> {
         event: read_event(rest)?,
         lower: read_bound(rest)?,
         upper: read_bound(rest)?,
+        threshold: None,
+    })
+}
+
+fn read_count(rest: &mut &[u8]) -> Option<Leaf> {
+    let [number] = take(rest)?;
+    let threshold = take_number(rest)?;
+    Some(Leaf {
+        event: Event { form: KIND, number },
+        lower: read_bound(rest)?,
+        upper: read_bound(rest)?,
+        threshold: Some(threshold),
     })
 }
 
