@@ -1,5 +1,6 @@
--- Demand 3 speaks of something: an instance on the sample share that computes. A report at 45 is given; an append stamped 44 is refused, one
--- stamped 45 accepted; the report at 46 has one row more, which is struck. Assumes nothing.
+-- Demand 3 speaks of something: instances on the sample share that compute. A report at 45 is given; an append stamped 44 is refused, one
+-- stamped 45 accepted; the report at 46 has one row more, which is struck. And under a count: a report at 131 has the row that the count settled
+-- at 130; one more write, stamped 131, comes too late to change it. Assumes nothing.
 use Prim.Native.Nat.{ℕ}
 use native.Mathlib.Omega.{arith}
 use mathlib.Core.Path.{_≡_, refl}
@@ -9,7 +10,7 @@ use Rattle.format.specs.Records.{valueWidth}
 use Rattle.calls.specs.Calls.{append}
 use Rattle.calls.specs.Lasting.{Accepted, HeldLog, afterAppends, NoneBefore, reportOn, rowsGiven, rowsLeft, bytesBefore}
 use Rattle.calls.proofs.Computes.{computes}
-use Rattle.calls.proofs.Sample.{terms, log, writing, rest, row}
+use Rattle.calls.proofs.Sample.{terms, counting, log, writing, rest, row}
 
 -- the sample log in a buffer of 80 bytes
 abbrev pub held : HeldLog
@@ -57,6 +58,27 @@ pub record AlikeInstance : Type 0 where
   -- and not the same log
   pub later-differ : reportOn valueWidth terms other 130 (rest 54) .left ≡ row 1 10 ++ (row 2 30 ++ row 5 129)
 
+-- the sample log with a second write in the window, at 46: not more than 2, which the count asks for
+abbrev pub counted : HeldLog
+counted = record { buffer = log 45 ++ (writing 46 3 ++ rest 24); used = 69 }
+
+-- a third one at 131, after the window
+abbrev countedAfter : HeldLog
+countedAfter = afterAppends valueWidth counting counted (writing 131 4 ∷ [])
+
+-- the premises of demand 3 hold under a count, and the row that it settled remains
+pub record CountInstance : Type 0 where
+  -- the report at 131
+  pub given : Accepted (reportOn valueWidth counting counted 131 (rest 60))
+  -- one append stamped 131, which is accepted
+  pub none-before : NoneBefore valueWidth counting 131 counted (writing 131 4 ∷ [])
+  pub used : countedAfter .used ≡ 82
+  -- the report at 200
+  pub later : Accepted (reportOn valueWidth counting countedAfter 200 (rest 60))
+  -- the same three rows, discharged at 130 the last
+  pub rows : (rowsGiven valueWidth (reportOn valueWidth counting counted 131 (rest 60)) ≡ row 1 10 ++ (row 2 30 ++ row 4 130))
+      × (flatten (rowsLeft valueWidth 131 (reportOn valueWidth counting countedAfter 200 (rest 60))) ≡ row 1 10 ++ (row 2 30 ++ row 4 130))
+
 -- all of it by computation
 pub instance : Instance
 unfolding computes
@@ -74,3 +96,8 @@ instance = record {
 pub alike-instance : AlikeInstance
 unfolding computes
 alike-instance = record { one-given = refl; other-given = refl; alike = refl; counts = (refl, refl); later-differ = refl }
+
+-- so is this
+pub count-instance : CountInstance
+unfolding computes
+count-instance = record { given = refl; none-before = (λ e. omega arith, tt); used = refl; later = refl; rows = (refl, refl) }

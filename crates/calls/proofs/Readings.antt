@@ -12,9 +12,10 @@ use Rattle.format.specs.Records.{valueWidth}
 use Rattle.calls.specs.Answers.{StandingAnswer}
 use Rattle.calls.specs.Calls.{checkTerms, checkLog, Outcome, append, report, standing}
 use Rattle.meaning.proofs.Cases.{Case, case, Hold, hold-all}
-use Rattle.format.proofs.CaseBytes.{word, kind, schema, leaf, and, or, except, always, plain, plus, minus, unbounded, S, E, F, created, detached, expired, discharged, violated, norm, clauses, plainSchema, apartWith, X, event, sAt, eAt, fAt, nothing, waiting, E10, F20}
+use Rattle.format.proofs.CaseBytes.{word, kind, schema, leaf, moreThan, and, or, except, always, plain, plus, minus, unbounded, S, E, F, created, detached, expired, discharged, violated, norm, clauses, plainSchema, apartWith, X, event, sAt, eAt, fAt, nothing, waiting, E10, F20}
 use Rattle.calls.proofs.Computes.{computes}
 use Rattle.calls.proofs.Sample.{rest, gives, told}
+use Rattle.calls.proofs.Sample as sample
 
 -- call 4 on a whole log at the last moment there is, with a page of 144 bytes, which holds eight rows
 abbrev reported : List ℕ → List ℕ → Outcome
@@ -106,6 +107,33 @@ joinedCases =
     ∷ []))
     ∷ []
 
+-- call 4 on the sample log with two more writes, at 46 and 47, of which so many bytes are used, under the sample's terms with a count: more than 2
+abbrev strikes : ℕ → ℕ → Outcome
+strikes used m = report valueWidth sample.counting (sample.log 45 ++ sample.writing 46 3 ++ sample.writing 47 4) used m (rest 60)
+
+-- item 08 from bytes to rows
+abbrev countCases : List (Case Outcome)
+countCases =
+    -- settled when the window ends, with more records than the threshold in it
+    case (detaching (moreThan 1 1 (plain 0) (plain 10)) (eAt 1 ++ eAt 2)) (occursAt 10)
+    ∷ case (detaching (moreThan 1 1 (plain 0) (plain 10)) (eAt 1 ++ eAt 10)) (failsAt 10)
+    -- the threshold has four bytes
+    ∷ case (detaching (moreThan 256 1 (plain 0) (plain 10)) (eAt 1)) (failsAt 10)
+    ∷ case (detaching (moreThan 0 1 (plain 0) (plain 10)) (eAt 1)) (occursAt 10)
+    -- each bound by its own bytes
+    ∷ case (detaching (moreThan 0 1 (plus F 3) (plus F 5)) (fAt 5 ++ eAt 8)) (occursAt 10)
+    ∷ case (detaching (moreThan 0 1 (plus F 3) (plus F 5)) (fAt 5 ++ eAt 7)) (failsAt 10)
+    ∷ case (detaching (moreThan 0 1 (minus F 5) (minus F 3)) (eAt 16 ++ fAt 20)) (occursAt 20)
+    ∷ case (detaching (moreThan 0 1 (minus F 5) (minus F 3)) (eAt 17 ++ fAt 20)) (failsAt 20)
+    -- a count and what stands after it
+    ∷ case (detaching (and (moreThan 0 1 (plain 0) (plain 10)) F20) (eAt 5 ++ fAt 8)) (occursAt 10)
+    ∷ case (detaching (except F20 (moreThan 0 1 (plain 0) (plain 10))) (fAt 8)) (occursAt 10)
+    -- three strikes: writes at 45, 46 and 47 violate when the window ends at 130; two do not
+    ∷ case (strikes 82 131) (gives 0 3 (sample.row 1 10 ++ sample.row 2 30 ++ sample.row 5 130 ++ rest 6))
+    ∷ case (strikes 82 130) (gives 0 2 (sample.row 1 10 ++ sample.row 2 30 ++ rest 24))
+    ∷ case (strikes 69 131) (gives 0 3 (sample.row 1 10 ++ sample.row 2 30 ++ sample.row 4 130 ++ rest 6))
+    ∷ []
+
 -- call 1, and the number it returns
 abbrev terms : List ℕ → ℕ → Case Outcome
 terms bytes number = case (told (checkTerms bytes)) (gives number 0 [])
@@ -122,7 +150,10 @@ termsCases =
     3
     ∷ terms (apartWith (leaf X (plain 0) unbounded) ++ schema 2 0 0 0 (leaf (created 1) (plain 0) unbounded) always always) 4
     ∷ terms (apartWith (leaf (created 1) (plain 0) unbounded) ++ schema 2 2 1 1 always always always) 4
+    ∷ terms (apartWith (moreThan 0 2 (plain 0) (plus (detached 0) 0)) ++ schema 2 0 0 0 always always (moreThan 0 1 (plain 0) unbounded)) 3
+    ∷ terms (apartWith (moreThan 0 2 (plain 0) (plus (detached 0) 0))) 4
     -- 5, where nothing before it holds
+    ∷ terms (apartWith (moreThan 0 2 (plain 0) (plain 10))) 5
     ∷ terms (apartWith (leaf X (plain 0) unbounded)) 5
     ∷ []
 
@@ -267,6 +298,10 @@ joinedHold : Hold joinedCases
 unfolding computes
 joinedHold = refl
 
+countHold : Hold countCases
+unfolding computes
+countHold = refl
+
 termsHold : Hold termsCases
 unfolding computes
 termsHold = refl
@@ -285,8 +320,8 @@ callHold = refl
 
 -- the parts of the second list that are about calls
 abbrev pub parts : List (List (Case Outcome))
-parts = joinedCases ∷ termsCases ∷ logCases ∷ appendCases ∷ callCases ∷ []
+parts = joinedCases ∷ countCases ∷ termsCases ∷ logCases ∷ appendCases ∷ callCases ∷ []
 
 -- each call gives what the document's words say; the parts are computed one by one, which is quicker than all at once
 pub readings : Hold (flatten parts)
-readings = hold-all parts (joinedHold, (termsHold, (logHold, (appendHold, (callHold, tt)))))
+readings = hold-all parts (joinedHold, (countHold, (termsHold, (logHold, (appendHold, (callHold, tt))))))

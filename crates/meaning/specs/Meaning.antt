@@ -131,15 +131,15 @@ module _ (times : StageTimes) (terms : Terms) (log : Log) (subject : Record) whe
 
   -- a count is settled when its window has ended and both bounds are known; none, where the number of records does not pass a test (count)
   unfoldable pub countTime : (ℕ → Bool) → CountLeaf → Time
-  countTime passes x =
-      onceKnown (known (x .lower)) λ g.
-      onceKnown (known (x .upper)) λ h.
-      onlyIf (passes (countWithin (edgeOf (x .lower) g) (edgeOf (x .upper) h) (x .kind))) (reached (edgeOf (x .upper) h))
+  countTime passes c =
+      onceKnown (known (c .lower)) λ g.
+      onceKnown (known (c .upper)) λ h.
+      onlyIf (passes (countWithin (edgeOf (c .lower) g) (edgeOf (c .upper) h) (c .kind))) (reached (edgeOf (c .upper) h))
 
   -- the times of an expression; a count occurs with more records than its threshold, and fails with as many or fewer (expressions, count)
   unfoldable pub timesOf : Expr Atom → Times
   timesOf (leaf (Happens x)) = record { occurs = leafOccurrence x; fails = leafFailure x }
-  timesOf (leaf (Counts x)) = record { occurs = countTime (λ n. ltb (x .threshold) n) x; fails = countTime (λ n. leb n (x .threshold)) x }
+  timesOf (leaf (Counts c)) = record { occurs = countTime (λ n. ltb (c .threshold) n) c; fails = countTime (λ n. leb n (c .threshold)) c }
   timesOf (and a b) = andOf (timesOf a) (timesOf b)
   timesOf (or a b) = orOf (timesOf a) (timesOf b)
   timesOf (except a b) = exceptOf (timesOf a) (timesOf b)
