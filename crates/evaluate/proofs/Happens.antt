@@ -12,6 +12,7 @@ use Rattle.meaning.specs.declared.Time.the-variants.{At, Never}
 use Rattle.meaning.specs.declared.Stage.{Stage}
 use Rattle.meaning.specs.declared.Event.{Event}
 use Rattle.meaning.specs.declared.Event.the-variants.{Kind, StageOf}
+use Rattle.meaning.specs.Time.{onlyIf}
 use Rattle.meaning.specs.Terms.{kindOf, rank}
 use Rattle.meaning.specs.Log.{Record, correlate}
 use Rattle.meaning.specs.Meaning.{cited, timeBy, happening, stageTime}
@@ -36,13 +37,13 @@ module _ (terms log : List ℕ) (k subject at : ℕ) (event : Event) {found : Bo
 
   -- it is not so
   pub happens-not : found ≡ false → Never ≡ happens terms log k subject event (recordIn terms log at)
-  unfolding under happening
+  unfolding under happening onlyIf
   happens-not f = rw (test ∙ f, happening)
 
   -- it is so: the event says when
   happens-by : found ≡ true → happens terms log k subject event (recordIn terms log at)
       ≡ timeBy (cited k (stageTime (termsOf terms) (logIn terms log))) event (recordIn terms log at)
-  unfolding under happening
+  unfolding under happening onlyIf
   happens-by f = rw (test ∙ f, happening)
 
   -- a kind: at the record's stamp

@@ -11,7 +11,7 @@ use Rattle.meaning.specs.declared.Time.{Time}
 use Rattle.meaning.specs.declared.Time.the-variants.{Never}
 use Rattle.meaning.specs.declared.Event.{Event}
 use Rattle.meaning.specs.declared.Edge.{Edge}
-use Rattle.meaning.specs.Time.{earlierOf}
+use Rattle.meaning.specs.Time.{earlierOf, onlyIf}
 use Rattle.meaning.specs.Terms.{kindOf}
 use Rattle.meaning.specs.Log.{Record}
 use Rattle.meaning.specs.Meaning.{earliest, fromEdge, beforeEdge, happening, firstWithin}
@@ -37,7 +37,7 @@ module _ (terms log : List ℕ) (k subject : ℕ) (l u : Edge) (event : Event) w
 
   -- a record of another kind, or one that does not correlate, gives no time
   by-other : {kind : ℕ} → kind ≡ kindOf (termsOf terms) event → (r : Record) → scans.fits terms log subject kind r ≡ false → inWindow r ≡ Never
-  unfolding under happening recordIn
+  unfolding under happening recordIn onlyIf
   by-other is r e = rw (rw is at e, happening) (never-within l u)
 
   -- a kind that is not declared has no records

@@ -120,8 +120,8 @@ bounds-back : (p : List ℕ) (n : ℕ) → length p ≡ n → (l u : Bound) → 
 bounds-back p n e l u fl fu = (
   bound-at p _ n e ∙ bound-back l fl (boundBytes u),
   rw (← append-assoc p (boundBytes l) (boundBytes u))
-  (bound-at (p ++ boundBytes l) (boundBytes u) (n + 7) (omega (arith, length-append p (boundBytes l), bound-length l, e))
-  ∙ ap (λ (s : List ℕ). boundOf s 0) (sym (append-nil (boundBytes u))) ∙ bound-back u fu []),
+      (bound-at (p ++ boundBytes l) (boundBytes u) (n + 7) (omega (arith, length-append p (boundBytes l), bound-length l, e))
+      ∙ ap (λ (s : List ℕ). boundOf s 0) (sym (append-nil (boundBytes u))) ∙ bound-back u fu []),
 )
 
 -- a leaf is read back, of every event, kind and threshold, and with bounds of every sign

@@ -11,7 +11,7 @@ use Rattle.meaning.specs.declared.Stage.the-variants.{Created, Detached,
 use Rattle.meaning.specs.declared.NormType.{NormType}
 use Rattle.meaning.specs.declared.Atom.{Atom}
 use Rattle.meaning.specs.declared.Times.{Times}
-use Rattle.meaning.specs.Time.{laterOf}
+use Rattle.meaning.specs.Time.{laterOf, onlyIf}
 use Rattle.meaning.specs.Terms.{Terms, Expr, schemaAt, rank}
 use Rattle.meaning.specs.Log.{Record, Log}
 use Rattle.meaning.specs.Meaning.{StageTimes, cited, timesOf, stageFrom, stageStep, timesWithin, stageTime}
@@ -19,12 +19,12 @@ use Rattle.meaning.proofs.TimeLaws.{Side, early, late, side}
 
 -- a clause of rank k sees a stage of smaller rank as it is
 pub cited-below : (k : ℕ) (times : StageTimes) (s : Stage) (j : ℕ) (r : Record) → rank s j < k → cited k times s j r ≡ times s j r
-unfolding cited
+unfolding cited onlyIf
 cited-below k times s j r h = rw (lt-ltb (rank s j) k h, cited)
 
 -- and any other stage as one that never happens
 pub cited-above : (k : ℕ) (times : StageTimes) (s : Stage) (j : ℕ) (r : Record) → k ≤ rank s j → cited k times s j r ≡ Never
-unfolding cited
+unfolding cited onlyIf
 cited-above k times s j r h = rw (le-ltb (rank s j) k h, cited)
 
 -- a stage ranks no lower than its create clause

@@ -3,9 +3,9 @@
 use Prim.Native.Nat.{ℕ, zero, suc, _≤_, _<_}
 use native.Mathlib.Omega.{arith}
 use mathlib.Core.Path.{_≡_, refl, ap₂, _∙_}
-use mathlib.Core.Bool.{Bool, true, false, cond, _&&_}
+use mathlib.Core.Bool.{Bool, true, false, cond}
 use mathlib.Core.List.{[], _∷_, flatMap}
-use lib.Dec.{leb, ltb, eqb}
+use lib.Dec.{leb}
 use borrow.Author.Tests.{leb-true}
 use Rattle.meaning.specs.declared.Time.{Time}
 use Rattle.meaning.specs.declared.Time.the-variants.{At, Never}
@@ -23,8 +23,8 @@ use Rattle.meaning.specs.declared.Row.{Row}
 use Rattle.meaning.specs.Lists.{All}
 use Rattle.meaning.specs.Time.{laterOf, before, cut, lastMinute}
 use Rattle.meaning.specs.Stages.{stages}
-use Rattle.meaning.specs.Terms.{Terms, Expr, leaf, and, or, except, always, kindOf, rank}
-use Rattle.meaning.specs.Log.{Record, Log, correlate}
+use Rattle.meaning.specs.Terms.{Terms, Expr, leaf, and, or, except, always, rank}
+use Rattle.meaning.specs.Log.{Record, Log}
 use Rattle.meaning.specs.Meaning.{StageTimes, cited, earliest, reached, timeBy, happening, first, firstWithin, known, leafOccurrence, failureAt, leafFailure, countTime, timesOf, stageStep, timesWithin, stageTime}
 use Rattle.meaning.specs.Rows.{rowOf, rowAt, isSubject, subjectRows, timedRows}
 use Rattle.meaning.proofs.ListLaws.{all-flatMap, all-each}
@@ -68,21 +68,16 @@ module _ (m : ℕ) (past : lastMinute < m) where
 
   cited-fits : (times : StageTimes) → StagesFit m times → (k : ℕ) → StagesFit m (cited k times)
   unfolding cited
-  cited-fits times fits k s j r h = go (ltb (rank s j) k)
-    where
-      go : (b : Bool) → (let t : Time = elim b [ true ↦ times s j r | false ↦ Never ] in before m t ≡ t)
-      go true = fits s j r h
-      go false = before-never m
+  cited-fits times fits k s j r h = simp (before-onlyIf, fits s j r h)
 
   module _ (times : StageTimes) (fits : StagesFit m times) (terms : Terms) (log : Log) (log-fits : StampsFit log) (subject : Record) where
     happening-fits : (e : Event) (r : Record) → r .stamp ≤ lastMinute → before m (happening times terms subject e r) ≡ happening times terms subject e r
     unfolding happening timeBy
-    happening-fits e r h = go e (eqb (r .kind) (kindOf terms e) && correlate terms subject r)
+    happening-fits e r h = simp (before-onlyIf, by-fits e)
       where
-        go : (e : Event) (b : Bool) → (let t : Time = elim b [ true ↦ timeBy times e r | false ↦ Never ] in before m t ≡ t)
-        go e false = before-never m
-        go (Kind k) true = before-lt m (r .stamp) (omega arith)
-        go (StageOf s j) true = fits s j r h
+        by-fits : (e : Event) → before m (timeBy times e r) ≡ timeBy times e r
+        by-fits (Kind k) = before-lt m (r .stamp) (omega arith)
+        by-fits (StageOf s j) = fits s j r h
 
     first-fits : (e : Event) → before m (first times terms log subject e) ≡ first times terms log subject e
     unfolding first

@@ -6,9 +6,9 @@
 use Prim.Native.Nat.{ℕ, zero, suc, _+_, _*_, _≤_}
 use native.Mathlib.Omega.{arith}
 use mathlib.Core.Path.{_≡_, refl, ap, ap₂, sym, _∙_, fun-ext}
-use mathlib.Core.Bool.{Bool, true, false, cond, _&&_}
+use mathlib.Core.Bool.{Bool, true, false, cond}
 use mathlib.Core.List.{[], _∷_}
-use lib.Dec.{ltb, eqb}
+use lib.Dec.{ltb}
 use borrow.Author.Tests.{ltb-false}
 use Rattle.meaning.specs.declared.Time.{Time}
 use Rattle.meaning.specs.declared.Time.the-variants.{Never}
@@ -24,8 +24,8 @@ use Rattle.meaning.specs.declared.Atom.the-variants.{Happens, Counts}
 use Rattle.meaning.specs.declared.Edge.{Edge}
 use Rattle.meaning.specs.declared.Edge.the-variants.{Minute, Endless}
 use Rattle.meaning.specs.Time.{laterOf, earlierOf, before, onlyIf}
-use Rattle.meaning.specs.Terms.{Terms, Expr, leaf, and, or, except, always, kindOf, schemaAt, rank}
-use Rattle.meaning.specs.Log.{Record, Log, correlate}
+use Rattle.meaning.specs.Terms.{Terms, Expr, leaf, and, or, except, always, schemaAt, rank}
+use Rattle.meaning.specs.Log.{Record, Log}
 use Rattle.meaning.specs.Meaning.{StageTimes, cited, earliest, one, tally, fromEdge, beforeEdge, reached, timeBy, happening, first, firstWithin, known, leafOccurrence, failureAt, leafFailure, countWithin, countTime, timesOf, stageStep, timesWithin, stageTime}
 use Rattle.meaning.specs.Rows.{strike}
 use Rattle.meaning.proofs.TimeLaws.{Side, early, late, side, before-le, before-later, before-earlier, before-onceKnown, before-before, before-cut, before-never, before-ifNever, ifNever-never, before-onlyIf, onlyIf-never, onceKnown-never}
@@ -65,13 +65,12 @@ earliest-same m f g outf outg same log log′ alike =
 
 -- an event's happenings by late records are late
 happening-late : (m : ℕ) (terms : Terms) (subject : Record) (times : StageTimes) → LateStages m times → (e : Event) → Late m (happening times terms subject e)
-unfolding happening timeBy before
-happening-late m terms subject times out e r h = go e (eqb (r .kind) (kindOf terms e) && correlate terms subject r)
+unfolding happening timeBy
+happening-late m terms subject times out e r h = simp (before-onlyIf, by-late e, onlyIf-never)
   where
-    go : (e : Event) (b : Bool) → before m (elim b [ true ↦ timeBy times e r | false ↦ Never ]) ≡ Never
-    go e false = refl
-    go (Kind k) true = before-le m (r .stamp) h
-    go (StageOf s j) true = out s j r h
+    by-late : (e : Event) → before m (timeBy times e r) ≡ Never
+    by-late (Kind k) = before-le m (r .stamp) h
+    by-late (StageOf s j) = out s j r h
 
 -- happenings that are all before m have their earliest before m
 earliest-early : (m : ℕ) (f : Record → Time) → ((r : Record) → before m (f r) ≡ f r) → (log : Log) → before m (earliest f log) ≡ earliest f log
@@ -131,12 +130,11 @@ module _ (m : ℕ) (terms : Terms) (subject : Record) (times times′ : StageTim
     (alike : recordsBefore m log ≡ recordsBefore m log′) where
   happening-same : (e : Event) (r : Record) → before m (happening times terms subject e r) ≡ before m (happening times′ terms subject e r)
   unfolding happening timeBy
-  happening-same e r = go e (eqb (r .kind) (kindOf terms e) && correlate terms subject r)
+  happening-same e r = simp (before-onlyIf, by-same e)
     where
-      go : (e : Event) (b : Bool) → before m (elim b [ true ↦ timeBy times e r | false ↦ Never ]) ≡ before m (elim b [ true ↦ timeBy times′ e r | false ↦ Never ])
-      go e false = refl
-      go (Kind k) true = refl
-      go (StageOf s j) true = same-times s j r
+      by-same : (e : Event) → before m (timeBy times e r) ≡ before m (timeBy times′ e r)
+      by-same (Kind k) = refl
+      by-same (StageOf s j) = same-times s j r
 
   first-same : (e : Event) → before m (first times terms log subject e) ≡ before m (first times′ terms log′ subject e)
   unfolding first
@@ -217,20 +215,12 @@ module _ (m : ℕ) (terms : Terms) (subject : Record) (times times′ : StageTim
 -- a guard on citations takes late stages to late ones, and the same to the same
 cited-late : (m k : ℕ) (times : StageTimes) → LateStages m times → LateStages m (cited k times)
 unfolding cited
-cited-late m k times out s j r h = go (ltb (rank s j) k)
-  where
-    go : (b : Bool) → before m (elim b [ true ↦ times s j r | false ↦ Never ]) ≡ Never
-    go true = out s j r h
-    go false = before-never m
+cited-late m k times out s j r h = simp (before-onlyIf, out s j r h, onlyIf-never)
 
 cited-same : (m k : ℕ) (times times′ : StageTimes) → ((s : Stage) (j : ℕ) (r : Record) → before m (times s j r) ≡ before m (times′ s j r))
     → (s : Stage) (j : ℕ) (r : Record) → before m (cited k times s j r) ≡ before m (cited k times′ s j r)
 unfolding cited
-cited-same m k times times′ same s j r = go (ltb (rank s j) k)
-  where
-    go : (b : Bool) → before m (elim b [ true ↦ times s j r | false ↦ Never ]) ≡ before m (elim b [ true ↦ times′ s j r | false ↦ Never ])
-    go true = same s j r
-    go false = refl
+cited-same m k times times′ same s j r = simp (before-onlyIf, same s j r)
 
 -- a stage of a late subject is late
 stageStep-late : (m : ℕ) (times : StageTimes) (terms : Terms) (log : Log) → LateStages m (stageStep times terms log)

@@ -1,7 +1,7 @@
 -- When things happen, for one subject: events, bounds, leaves, expressions and the five stages.
 -- Document 01, 'When things happen', and 'Citation' of 'Terms and log'. Assumes nothing: these are definitions.
 use Prim.Native.Nat.{ℕ, zero, suc, _+_, _-_, _*_}
-use mathlib.Core.Bool.{Bool, true, false, _&&_}
+use mathlib.Core.Bool.{Bool, _&&_}
 use mathlib.Core.List.{[], _∷_}
 use lib.Dec.{eqb, leb, ltb}
 use Rattle.meaning.specs.declared.Time.{Time}
@@ -31,7 +31,7 @@ StageTimes = Stage → ℕ → Record → Time
 
 -- what a clause of rank k sees: stages of smaller rank (Citation)
 unfoldable pub cited : ℕ → StageTimes → StageTimes
-cited k times s j subject = elim (ltb (rank s j) k) [ true ↦ times s j subject | false ↦ Never ]
+cited k times s j subject = onlyIf (ltb (rank s j) k) (times s j subject)
 
 -- the earliest of the times that a log's records give (bounds, leaf occurs)
 unfoldable pub earliest : (Record → Time) → Log → Time
@@ -77,7 +77,7 @@ timeBy times (StageOf s j) r = times s j r
 
 -- the same for a subject: by a record of the event's kind that correlates with it (happenings)
 unfoldable pub happening : StageTimes → Terms → Record → Event → Record → Time
-happening times terms subject e r = elim (eqb (r .kind) (kindOf terms e) && correlate terms subject r) [ true ↦ timeBy times e r | false ↦ Never ]
+happening times terms subject e r = onlyIf (eqb (r .kind) (kindOf terms e) && correlate terms subject r) (timeBy times e r)
 
 -- and: both are needed, one failure is enough (expressions)
 unfoldable pub andOf : Times → Times → Times

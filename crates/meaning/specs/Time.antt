@@ -38,7 +38,7 @@ unfoldable pub ifNever : Time → Time → Time → Time
 ifNever Never a b = a
 ifNever (At n) a b = b
 
--- a time where a test holds, else none (count)
+-- a time where a test holds, else none (happenings, Citation, count)
 unfoldable pub onlyIf : Bool → Time → Time
 onlyIf true t = t
 onlyIf false t = Never

@@ -35,7 +35,8 @@ returns-4 c t h =
     let k = l .before .before .before in
     rw (
       count-wrong-here t _ _ (k .before .before .before .pre .0),
-      ← h, lt-leb _ _ (k .if1 .left),
+      ← h,
+      lt-leb _ _ (k .if1 .left),
       ne-eqb _ _ (l .before .if2 .left),
       ← l .bound-wrong .ensures t h,
       c .before .before .if3 .left,
@@ -49,7 +50,8 @@ returns-5 c t h =
     let k = l .before .before .before in
     rw (
       count-wrong-here t _ _ (k .before .before .before .pre .0),
-      ← h, lt-leb _ _ (k .if1 .left),
+      ← h,
+      lt-leb _ _ (k .if1 .left),
       ne-eqb _ _ (l .before .if2 .left),
       ← l .bound-wrong .ensures t h,
       c .before .before .before .if3 .left,

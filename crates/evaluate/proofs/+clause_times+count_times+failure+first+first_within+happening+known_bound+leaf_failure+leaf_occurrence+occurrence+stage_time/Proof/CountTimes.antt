@@ -1,6 +1,5 @@
 -- `count_times` meets its contract, its calls within the cycle being smaller. Assumes nothing.
 use Prim.Native.Nat.{ℕ}
-use native.Mathlib.Omega.{arith}
 use borrow.Author.Needs.{needs}
 use Rattle.meaning.proofs.Time.later_of.Reads as later-of
 use Rattle.times.proofs.reached.Reads as reached
