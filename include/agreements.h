@@ -70,11 +70,11 @@ enum agreements_refusal {
     AGREEMENTS_BROKEN_GRAMMAR = 2,     /* they are not 1 to 32 kinds, then 1 to 16 schemas of a head and three expressions of up to 31 items
                                           (03 to 08), all of them whole, and nothing more */
     AGREEMENTS_FIELD_OUT_OF_RANGE = 3, /* a kind's number is not its place, a mask is 0, a key or a party is not in its kind's mask, a norm
-                                          type, kind, form or sign does not exist, a lower bound or any bound of a count is open, an offset
-                                          is above 2,147,483,647, or what has to be 0 is not */
+                                          type, kind, form or sign does not exist, a lower bound, or the upper one of a count, is open, an
+                                          offset is above 2,147,483,647, or what has to be 0 is not */
     AGREEMENTS_CITATION_TOO_HIGH = 4,  /* a clause cites a stage of its own rank or of a higher one (docs/FORMAT.md, Citations) */
-    AGREEMENTS_NOTHING_SHARED = 5,     /* the kind of an event or a count in a clause (of a stage: its subject kind) has no attribute in
-                                          common with the subject kind */
+    AGREEMENTS_NOTHING_SHARED = 5,     /* a kind that a clause names, by an event or a count (for a stage: its schema's subject kind), has no
+                                          attribute in common with the subject kind */
 
     /* every call but check terms, of the log */
     AGREEMENTS_USED_TOO_LONG = 6, /* the used length is over 32,768 or over the buffer's length */

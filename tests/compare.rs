@@ -19,7 +19,7 @@ use std::time::Instant;
 use tally::{Tally, APPEND, CALLS, CHECK_LOG, CHECK_TERMS, LISTING, REPORT, STANDING};
 
 /// From so many cases on, each refusal, both halves of demand 3, each kind of listing and both outcomes of a count have
-/// to come up.
+/// to come up, the latter after its window too, and a third of the terms have to have a count.
 const ENOUGH: u64 = 20_000;
 /// How many differences are printed whole.
 const SHOWN: u32 = 5;

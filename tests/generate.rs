@@ -52,7 +52,7 @@ pub const WIDE: Size = Size {
     large: true,
 };
 
-/// Bytes for five rows of each of 22 subjects: a page that small cases cannot fill.
+/// Bytes for five rows of each of 22 subjects: a page that small cases hardly ever fill.
 const ROOMY: usize = 1_980;
 
 /// The length of a page, to be fixed once the number of rows is known.

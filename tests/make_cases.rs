@@ -14,7 +14,7 @@ use tally::Counts;
 
 const SEED: u64 = 20_261_116;
 const CASES: u32 = 3_200;
-const SIZE_LIMIT: usize = 2_200_000;
+const SIZE_LIMIT: usize = 2_300_000;
 /// The large cases but for those of many rows, which come last.
 const LONG: u32 = 9;
 const NOT_YET: u32 = u32::MAX;
@@ -39,8 +39,8 @@ fn main() {
             }
         };
         counts.add(&case);
-        for (counts, number) in numbers.iter_mut().zip(written.numbers) {
-            counts[number as usize] += 1;
+        for (answered, number) in numbers.iter_mut().zip(written.numbers) {
+            answered[number as usize] += 1;
         }
         long += u32::from(written.bytes.len() > 4_000);
         output.extend(written.bytes);

@@ -145,7 +145,7 @@ pub fn sample() -> Vec<u8> {
     prohibiting(leaf([0, WRITTEN], plus([0, REVOKED], 0), plus([0, REVOKED], 100)))
 }
 
-/// The same for a second write, earlier ones counted too.
+/// The same, but only for a second write, those before the revocation counted too.
 pub fn counting() -> Vec<u8> {
     prohibiting(count(WRITTEN, 1, ZERO, plus([0, REVOKED], 100)))
 }

@@ -42,33 +42,40 @@ impl Half {
 pub struct Counts {
     terms: u64,
     with_count: u64,
-    occurred: u64,
-    failed: u64,
+    /// How many occurred and how many failed; of each, those that were settled after their windows had ended.
+    settled: [u64; 2],
+    waited: [u64; 2],
 }
 
 impl Counts {
     pub fn add(&mut self, case: &Case) {
         let terms = Terms::read(&case.terms);
-        let [occurred, failed] = second::settled_counts(&case.terms, &case.buffer, case.used, case.moment);
         self.terms += 1;
         self.with_count += u64::from(terms.is_some_and(|terms| !terms.counts().is_empty()));
-        self.occurred += occurred;
-        self.failed += failed;
+        for settled in second::settled_counts(&case.terms, &case.buffer, case.used, case.moment) {
+            let outcome = usize::from(!settled.passed);
+            self.settled[outcome] += 1;
+            self.waited[outcome] += u64::from(settled.waited);
+        }
     }
 
     fn merge(&mut self, other: &Counts) {
         self.terms += other.terms;
         self.with_count += other.with_count;
-        self.occurred += other.occurred;
-        self.failed += other.failed;
+        for outcome in 0..2 {
+            self.settled[outcome] += other.settled[outcome];
+            self.waited[outcome] += other.waited[outcome];
+        }
     }
 
     /// What ought to have come up and did not.
     pub fn missed(&self) -> Vec<String> {
         let needed = [
             (3 * self.with_count >= self.terms, "an item 08 in a third of the terms"),
-            (self.occurred > 0, "a count that occurred"),
-            (self.failed > 0, "a count that failed"),
+            (self.settled[0] > 0, "a count that occurred"),
+            (self.settled[1] > 0, "a count that failed"),
+            (self.waited[0] > 0, "a count that occurred after its window"),
+            (self.waited[1] > 0, "a count that failed after its window"),
         ];
         let missed = needed.iter().filter(|(met, _)| !met);
         missed.map(|(_, what)| what.to_string()).collect()
@@ -77,15 +84,13 @@ impl Counts {
 
 impl fmt::Display for Counts {
     fn fmt(&self, out: &mut fmt::Formatter) -> fmt::Result {
-        let Counts {
-            terms,
-            with_count,
-            occurred,
-            failed,
-        } = self;
+        let Counts { terms, with_count, .. } = self;
+        let [occurred, failed] = self.settled;
+        let [late, later] = self.waited;
         write!(
             out,
-            "item 08: in {with_count} of {terms} terms; {occurred} counts occurred, {failed} failed"
+            "item 08: in {with_count} of {terms} terms; {occurred} counts occurred, {late} of them after their windows; \
+             {failed} failed, {later} of them after"
         )
     }
 }

@@ -42,7 +42,8 @@ impl Table<'_> {
         self.counts.get(usize::from(kind)).copied().unwrap_or(0)
     }
 
-    /// A failure asks twice for the event: before the upper bound, and within the window. A count asks once for either.
+    /// A failure asks twice for the event: before the upper bound, and within the window. A count asks once,
+    /// whichever of its times is wanted.
     fn leaf(&self, leaf: &Leaf, subject: u8) -> Cost {
         let bound = |bound: Bound| {
             if matches!(bound.sign, 1 | 2) {

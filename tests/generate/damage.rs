@@ -216,14 +216,14 @@ fn citing_schema(random: &mut Random, subject: u8, party: u8, cited: u8) -> Sche
 /// Refusal 2: the bytes of terms whose items are out of order, too many or too few.
 pub fn grammar(random: &mut Random, terms: &Terms) -> Vec<u8> {
     match random.below(4) {
-        0 => counts(random, terms.clone()).bytes(),
+        0 => numbers(random, terms.clone()).bytes(),
         1 => ends(random, terms.bytes()),
         _ => items(random, terms).concat(),
     }
 }
 
 /// One too many kinds, schemas or items of an expression, or as many as there may be.
-fn counts(random: &mut Random, mut terms: Terms) -> Terms {
+fn numbers(random: &mut Random, mut terms: Terms) -> Terms {
     let over = u8::from(random.percent(75));
     match random.below(5) {
         0 => {

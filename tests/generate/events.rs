@@ -43,11 +43,12 @@ impl State<'_> {
 
     fn next(&mut self, random: &mut Random) -> Record {
         let last = self.last();
-        let target = counts::target(random, self.terms, &self.records);
-        if let Some(target) = target.filter(|_| random.one_in(3)) {
-            let record = target.inside(random, &mut self.drawer);
-            let stamp = record.stamp.max(last);
-            return Record { stamp, ..record };
+        if random.one_in(3) {
+            if let Some(target) = counts::target(random, self.terms, &self.records) {
+                let record = target.inside(random, &mut self.drawer);
+                let stamp = record.stamp.max(last);
+                return Record { stamp, ..record };
+            }
         }
         let later = last.saturating_add(random.below(10)).min(HIGHEST);
         let stamp = match random.below(4) {

@@ -38,10 +38,9 @@ fn long_terms(random: &mut Random, size: &Size, length: usize) -> Case {
 
 /// Terms with as much of everything as there may be, and a count wherever one can stand; few records.
 fn longest_terms(random: &mut Random) -> Case {
-    let kinds = (0..32).map(|number| Kind {
-        number,
-        mask: 3,
-        key: 1,
+    let kinds = (0..32).map(|number| {
+        let (mask, key) = if number == 0 { (3, 1) } else { (5, 2) };
+        Kind { number, mask, key }
     });
     let schemas = (0..16).map(|_| Schema {
         norm: random.between(1, 4) as u8,

@@ -438,9 +438,10 @@ fn leaf(random: &mut Random, scope: &Scope) -> Leaf {
     }
 }
 
-/// Few records pass most thresholds; the low byte alone of some of the large ones would be passed as well.
+/// Mostly thresholds that a few records pass. Of some large ones a few records would pass the low byte, or the number
+/// without its highest bit, so that reading no more than that shows.
 const THRESHOLDS: [u32; 12] = [0, 0, 0, 0, 0, 1, 1, 1, 2, 2, 3, 4];
-const LARGE_THRESHOLDS: [u32; 6] = [u32::MAX, u32::MAX, 1 << 8, 1 << 16, 1 << 24, 257];
+const LARGE_THRESHOLDS: [u32; 7] = [u32::MAX, u32::MAX, 1 << 8, 1 << 16, 1 << 24, 1 << 31, 257];
 
 /// The leaf with a threshold, its event a kind that mostly recurs.
 fn counting(random: &mut Random, scope: &Scope, leaf: Leaf) -> Leaf {
@@ -464,16 +465,37 @@ fn counting(random: &mut Random, scope: &Scope, leaf: Leaf) -> Leaf {
     }
 }
 
-/// A leaf whose window has an end, often some minutes after its start, or some before the end becomes known.
+/// A leaf whose window has an end, often some minutes after its start, or before a bound is known.
 fn closed_leaf(random: &mut Random, scope: &Scope) -> Leaf {
     let leaf = usual_leaf(random, scope);
-    let upper = match random.below(10) {
-        0..=2 => end_after(random, leaf.lower),
-        3 | 4 => bound(random, scope, 2),
-        _ if leaf.upper.sign == OPEN.sign => end_after(random, leaf.lower),
-        _ => leaf.upper,
+    let (lower, upper) = match random.below(10) {
+        0..=2 => (leaf.lower, end_after(random, leaf.lower)),
+        3 => ends_before_known(random, scope),
+        4 => begins_before_known(random, scope),
+        _ if leaf.upper.sign == OPEN.sign => (leaf.lower, end_after(random, leaf.lower)),
+        _ => (leaf.lower, leaf.upper),
     };
-    Leaf { upper, ..leaf }
+    Leaf { lower, upper, ..leaf }
+}
+
+/// From the start until a few minutes before an event: the window has ended when its end becomes known.
+fn ends_before_known(random: &mut Random, scope: &Scope) -> (Bound, Bound) {
+    let event = bound(random, scope, 2);
+    let offset = random.between(1, 4);
+    (Bound { sign: 0, ..OPEN }, Bound { offset, ..event })
+}
+
+/// From some minutes before an event until a minute that often is before it too: the window has ended when its start
+/// becomes known.
+fn begins_before_known(random: &mut Random, scope: &Scope) -> (Bound, Bound) {
+    let event = bound(random, scope, 2);
+    let [offset, end] = [random.between(5, 20), random.between(2, 12)];
+    let upper = Bound {
+        sign: 0,
+        offset: end,
+        ..OPEN
+    };
+    (Bound { offset, ..event }, upper)
 }
 
 /// An upper bound some minutes after a lower one.

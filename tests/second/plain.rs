@@ -19,6 +19,13 @@ struct Known {
     since: u32,
 }
 
+/// How a count came out, when, and whether that was after its window had ended, since a bound was not known before.
+pub struct Settled {
+    pub time: u32,
+    pub passed: bool,
+    pub waited: bool,
+}
+
 impl Plain<'_> {
     pub fn stage_time(&self, number: u8, stage: u8, subject: &Record) -> Option<u32> {
         let schema = &self.terms.schemas[usize::from(number)];
@@ -66,10 +73,10 @@ impl Plain<'_> {
         }
     }
 
-    pub fn leaf_occurrence(&self, leaf: &Leaf, subject: &Record) -> Option<u32> {
-        if let Some(threshold) = leaf.threshold {
-            let (time, passed) = self.verdict(leaf, threshold, subject)?;
-            return passed.then_some(time);
+    fn leaf_occurrence(&self, leaf: &Leaf, subject: &Record) -> Option<u32> {
+        if leaf.threshold.is_some() {
+            let settled = self.settled(leaf, subject)?;
+            return settled.passed.then_some(settled.time);
         }
         let lower = self.known(&leaf.lower, subject)?;
         let upper = self.known(&leaf.upper, subject)?;
@@ -77,10 +84,10 @@ impl Plain<'_> {
         Some(first.max(lower.since).max(upper.since))
     }
 
-    pub fn leaf_failure(&self, leaf: &Leaf, subject: &Record) -> Option<u32> {
-        if let Some(threshold) = leaf.threshold {
-            let (time, passed) = self.verdict(leaf, threshold, subject)?;
-            return (!passed).then_some(time);
+    fn leaf_failure(&self, leaf: &Leaf, subject: &Record) -> Option<u32> {
+        if leaf.threshold.is_some() {
+            let settled = self.settled(leaf, subject)?;
+            return (!settled.passed).then_some(settled.time);
         }
         if leaf.upper.sign == OPEN {
             return None;
@@ -97,16 +104,19 @@ impl Plain<'_> {
         }
     }
 
-    /// When a count is settled, and whether it is passed; none where a bound is unknown, or that is past any time.
-    fn verdict(&self, leaf: &Leaf, threshold: u32, subject: &Record) -> Option<(u32, bool)> {
-        let lower = self.known(&leaf.lower, subject)?;
-        let upper = self.known(&leaf.upper, subject)?;
+    /// How a count is settled; none where a bound is unknown, or where its time would be past the last one.
+    pub fn settled(&self, count: &Leaf, subject: &Record) -> Option<Settled> {
+        let lower = self.known(&count.lower, subject)?;
+        let upper = self.known(&count.upper, subject)?;
         let window = lower.value..upper.value;
-        let records = self.correlated(leaf.event.number, subject);
+        let records = self.correlated(count.event.number, subject);
         let inside = records.filter(|record| window.contains(&u64::from(record.stamp)));
-        let passed = inside.count() as u64 > u64::from(threshold);
-        let since = lower.since.max(upper.since);
-        Some((time(upper.value.max(u64::from(since)))?, passed))
+        let known = u64::from(lower.since.max(upper.since));
+        Some(Settled {
+            time: time(upper.value.max(known))?,
+            passed: inside.count() as u64 > u64::from(count.threshold?),
+            waited: known > upper.value,
+        })
     }
 
     fn known(&self, bound: &Bound, subject: &Record) -> Option<Known> {

@@ -1,7 +1,8 @@
 -- Words of document 01 that could be read in a second way and that its sample leaves open, as far as they are about calls: each case is a call
 -- beside the outcome that the words give, closed by computation. B3 and C1 to C6 number these readings. Beside them stand refusals 1 and 6 to 16 with
 -- their nearest accepted neighbours, their order, and what calls leave. The lists of the layers below are over data and over the conditions of
--- single refusals; the first part here joins them, from bytes to rows. The expected outcomes are written from the document. Assumes nothing.
+-- single refusals; the first two parts here join them, from bytes to rows, the second of them for counts (document 02, wish 1). The expected outcomes are
+-- written from the documents. Assumes nothing.
 use Prim.Native.Nat.{ℕ, suc, _-_, _*_}
 use mathlib.Core.Path.{refl}
 use mathlib.Core.List.{List, [], _∷_, _++_, flatten}

@@ -1,6 +1,6 @@
 -- The times of an expression at a place of terms, by what the code tells of it; and a stage's time from those times of its clauses that it needs.
 --     expression-as                                   what is known of an expression, as the code told it
---     leaf-times, count-as, and-times, or-times,   its times, case by case
+--     leaf-times, count-as, and-times, or-times,      its times, case by case
 --     except-times, always-times, nothing-times
 --     occurs-times, fails-times                       both times, where it occurs and where it does not
 --     stage-whole, stage-here                         a stage's time from its clauses

@@ -1,4 +1,4 @@
--- One law for each answer about a bound and a leaf, for what bytes stand for.
+-- One law for each answer about a bound, a leaf and a count, for what bytes stand for.
 --     plain-known, open-known                   a bound without an event is known from the start
 --     first-here                                an event's earliest happening
 --     event-never, plus-known, minus-known      a bound with an event, by its earliest happening

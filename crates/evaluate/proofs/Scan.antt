@@ -32,7 +32,7 @@ module _ (terms log : List ℕ) (k subject : ℕ) (l u : Edge) (event : Event) w
   inWindow r = fromEdge l (beforeEdge u (happens terms log k subject event r))
 
   -- the earliest of these is gathered
-  gathers : Gathers earlierOf Never inWindow (earliest inWindow)
+  abbrev pub gathers : Gathers earlierOf Never inWindow (earliest inWindow)
   gathers = earliest-gathers inWindow
 
   -- a record of another kind, or one that does not correlate, gives no time
@@ -47,7 +47,7 @@ module _ (terms log : List ℕ) (k subject : ℕ) (l u : Edge) (event : Event) w
 
   -- the earliest so far, and the earliest of the records that are left, make up the earliest of all
   abbrev pub Scanned : Time → List ℕ → Type 0
-  Scanned = scans.Scanned terms log (earliest-gathers inWindow)
+  Scanned = scans.Scanned terms log gathers
 
   -- at the start all records of the mark are left
   pub scan-start : {kind : ℕ} {q : Mark} → kind ≡ kindOf (termsOf terms) event → Marks terms log subject kind q → Scanned Never (found (termsOf terms) log q)

@@ -233,30 +233,23 @@ pub fn expression_at(terms: &[u8], at: usize, items: usize) -> Expression
     if items == 0 {
         return Expression::Nothing;
     }
-    match byte_at(terms, at) {
+    let kind = byte_at(terms, at);
+    match kind {
         LEAF => {
             if terms.len() - at <= LEAF_BODY {
                 return Expression::Nothing;
             }
             Expression::Leaf(leaf_at(terms, at))
         }
-        AND => {
+        AND | OR | EXCEPT => {
             let Operands::Second(second, left) = read_operands(terms, at, items) else {
                 return Expression::Nothing;
             };
-            Expression::And(second, left)
-        }
-        OR => {
-            let Operands::Second(second, left) = read_operands(terms, at, items) else {
-                return Expression::Nothing;
-            };
-            Expression::Or(second, left)
-        }
-        EXCEPT => {
-            let Operands::Second(second, left) = read_operands(terms, at, items) else {
-                return Expression::Nothing;
-            };
-            Expression::Except(second, left)
+            match kind {
+                AND => Expression::And(second, left),
+                OR => Expression::Or(second, left),
+                _ => Expression::Except(second, left),
+            }
         }
         ALWAYS => Expression::Always,
         COUNT => {

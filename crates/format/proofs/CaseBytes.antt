@@ -18,10 +18,6 @@ schema type subject privileged liable create detach consequent = 0x02 ∷ type �
 abbrev pub leaf : List ℕ → List ℕ → List ℕ → List ℕ
 leaf event lower upper = 0x03 ∷ event ++ lower ++ upper
 
--- item 08: a threshold, a kind, a lower and an upper bound
-abbrev pub moreThan : ℕ → ℕ → List ℕ → List ℕ → List ℕ
-moreThan threshold kind lower upper = 0x08 ∷ kind ∷ word threshold ++ lower ++ upper
-
 abbrev pub and : List ℕ → List ℕ → List ℕ
 and a b = 0x04 ∷ a ++ b
 
@@ -33,6 +29,10 @@ except a b = 0x06 ∷ a ++ b
 
 abbrev pub always : List ℕ
 always = 0x07 ∷ []
+
+-- item 08: a threshold, a kind, a lower and an upper bound
+abbrev pub moreThan : ℕ → ℕ → List ℕ → List ℕ → List ℕ
+moreThan threshold kind lower upper = 0x08 ∷ kind ∷ word threshold ++ lower ++ upper
 
 -- a bound: sign, form, number, offset
 abbrev pub bound : ℕ → ℕ → ℕ → ℕ → List ℕ

@@ -170,7 +170,7 @@ read-join {kind} {join} is n m k s at items a b u t h e p q =
     let front : drop at s ≡ exprBytes (join a b) ++ t =
     rw (is .bytes, append-assoc) (cc (drop-here s at (omega (arith, read-inside n (items - 1) s (at + 1) a u p)), e, left .0, right .0)) in
     let count : size (join a b) ≤ items = omega (arith, is .items a b, left .1, right .1, size-positive a, size-positive b) in
-    rw front (expr-whole k items (join a b) t (omega arith) count (rw (is .bodies) (all-append WholeLeaf (leaves a) (leaves b) (left .2) (right .2))))
+    rw front (expr-whole k items (join a b) t (omega arith) count (rw (is .of-leaves) (all-append WholeLeaf (leaves a) (leaves b) (left .2) (right .2))))
 
 -- nothing is read where no item of an expression stands
 pub read-none : (n items : ℕ) (s : List ℕ) (at : ℕ) → (3 ≤ byteAt s at → byteAt s at ≤ 8 → ⊥) → readExpr n items (drop at s) ≡ none

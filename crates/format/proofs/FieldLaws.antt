@@ -9,7 +9,7 @@ use mathlib.Core.List.{List, [], _∷_, _++_, append-nil, append-assoc}
 use mathlib.Core.Option.{Option, none, some, bind}
 use lib.Dec.{eqb, leb, ltb}
 use lib.ListN.{length, length-append}
-use lib.Seq.{getD-append-add, drop-append-add, take-at}
+use lib.Seq.{drop-append-seam, getD-append-add, drop-append-add, take-at}
 use borrow.Author.Tests.{ltb-false, lt-ltb, ne-eqb}
 use Rattle.meaning.specs.declared.Stage.the-variants.{Created, Detached, Expired, Discharged, Violated}
 use Rattle.meaning.specs.declared.Event.{Event}
@@ -78,15 +78,10 @@ bound-at : (p q : List ℕ) (n : ℕ) → length p ≡ n → boundOf (p ++ q) n 
 unfolding boundOf
 bound-at p q n e = rw (sym (ap (byteAt (p ++ q)) (add-zero n)) ∙ byte-at p q n 0 e, byte-at p q n 1 e, byte-at p q n 2 e, number-at p q n 3 e)
 
--- an offset is read back
-offset-back : (a b c n : ℕ) (t : List ℕ) → n < 256 ^ 4 → numberAt 4 (a ∷ b ∷ c ∷ (bytesOf 4 n ++ t)) 3 ≡ n
+-- a number of four bytes is read back from its place
+number-back : (p : List ℕ) (k n : ℕ) (t : List ℕ) → length p ≡ k → n < 256 ^ 4 → numberAt 4 (p ++ (bytesOf 4 n ++ t)) k ≡ n
 unfolding numberAt
-offset-back a b c n t h = rw (take-at (bytesOf 4 n) t 4 (bytes-length 4 n)) (bytes-number 4 n h)
-
--- so is a threshold
-threshold-back : (a b n : ℕ) (t : List ℕ) → n < 256 ^ 4 → numberAt 4 (a ∷ b ∷ (bytesOf 4 n ++ t)) 2 ≡ n
-unfolding numberAt
-threshold-back a b n t h = rw (take-at (bytesOf 4 n) t 4 (bytes-length 4 n)) (bytes-number 4 n h)
+number-back p k n t e h = rw (← e, drop-append-seam p (bytesOf 4 n ++ t), take-at (bytesOf 4 n) t 4 (bytes-length 4 n)) (bytes-number 4 n h)
 
 -- an event is read back
 event-back : (e : Event) → eventOf (formOf e) (eventNumber e) ≡ some e
@@ -101,9 +96,9 @@ event-back (StageOf Violated j) = refl
 -- a bound is read back
 bound-back : (b : Bound) → OffsetFits b → (t : List ℕ) → boundOf (boundBytes b ++ t) 0 ≡ some b
 unfolding boundOf boundBytes byteAt bind
-bound-back (Plain n) h t = rw (offset-back 0 0 0 n t h)
-bound-back (Plus e n) h t = rw (event-back e, offset-back 1 (formOf e) (eventNumber e) n t h)
-bound-back (Minus e n) h t = rw (event-back e, offset-back 2 (formOf e) (eventNumber e) n t h)
+bound-back (Plain n) h t = rw (number-back (0 ∷ 0 ∷ 0 ∷ []) 3 n t refl h)
+bound-back (Plus e n) h t = rw (event-back e, number-back (1 ∷ formOf e ∷ eventNumber e ∷ []) 3 n t refl h)
+bound-back (Minus e n) h t = rw (event-back e, number-back (2 ∷ formOf e ∷ eventNumber e ∷ []) 3 n t refl h)
 bound-back Open h t = refl
 
 -- a bound has seven bytes
@@ -132,7 +127,7 @@ leaf-back (Happens x) fits =
     rw (event-back (x .event), bounds .0, bounds .1)
 leaf-back (Counts x) fits =
     let bounds = bounds-back (8 ∷ x .kind ∷ bytesOf 4 (x .threshold)) 6 (ap (λ (k : ℕ). suc (suc k)) (bytes-length 4 (x .threshold))) (x .lower) (x .upper) (fits .0) (fits .1) in
-    rw (threshold-back 8 (x .kind) (x .threshold) _ (fits .2), bounds .0, bounds .1)
+    rw (number-back (8 ∷ x .kind ∷ []) 2 (x .threshold) _ refl (fits .2), bounds .0, bounds .1)
 
 -- a form of at most 5 is an event's
 form-read : (form number : ℕ) → form ≤ 5 → (e : Event) × (eventOf form number ≡ some e)
@@ -240,7 +235,7 @@ leaf-read terms item h = go (eqb (byteAt item 0) 8) h
 abbrev pub Silent : Times → Type 0
 Silent x = (x .occurs ≡ Never) × (x .fails ≡ Never)
 
--- the leaf for a body that cannot be read neither occurs nor fails
+-- the leaf for an item that cannot be read neither occurs nor fails
 pub neither-silent : (times : StageTimes) (terms : Terms) (log : Log) (subject : Record) → Silent (timesOf times terms log subject (leaf neither))
 unfolding neither timesOf leafOccurrence leafFailure failureAt known edgeOf reached
 neither-silent times terms log subject = (simp (none-within, onceKnown-never), simp (ifNever-never, onceKnown-never))

@@ -60,22 +60,22 @@ pub record Connective (kind : ℕ) (join : E → E → E) : Type 0 where
   -- in items
   pub items : (a b : E) → size (join a b) ≡ suc (size a + size b)
   -- in leaves
-  pub bodies : (a b : E) → leaves (join a b) ≡ leaves a ++ leaves b
+  pub of-leaves : (a b : E) → leaves (join a b) ≡ leaves a ++ leaves b
 
 -- item 04
 pub and-is : Connective 4 and
 unfolding exprBytes size leaves
-and-is = record { bytes = λ a b. refl; items = λ a b. refl; bodies = λ a b. refl }
+and-is = record { bytes = λ a b. refl; items = λ a b. refl; of-leaves = λ a b. refl }
 
 -- item 05
 pub or-is : Connective 5 or
 unfolding exprBytes size leaves
-or-is = record { bytes = λ a b. refl; items = λ a b. refl; bodies = λ a b. refl }
+or-is = record { bytes = λ a b. refl; items = λ a b. refl; of-leaves = λ a b. refl }
 
 -- item 06
 pub except-is : Connective 6 except
 unfolding exprBytes size leaves
-except-is = record { bytes = λ a b. refl; items = λ a b. refl; bodies = λ a b. refl }
+except-is = record { bytes = λ a b. refl; items = λ a b. refl; of-leaves = λ a b. refl }
 
 -- an item of no body is its kind byte
 bare-sound : (kind : ℕ) (s : List ℕ) {body t : List ℕ} → item kind 0 s ≡ some (body, t) → s ≡ kind ∷ t
@@ -100,7 +100,7 @@ module _ (reader : ℕ → Reader E) (items kind : ℕ) (join : E → E → E) (
       rw (← found .0, ← found .1) (
         rw (is .bytes, append-assoc) (cc (bare-sound kind s p, left .0, right .0)),
         omega (arith, is .items (a .0) (b .0), left .1, right .1),
-        rw (is .bodies) (all-append WholeLeaf (leaves (a .0)) (leaves (b .0)) (left .2) (right .2)),
+        rw (is .of-leaves) (all-append WholeLeaf (leaves (a .0)) (leaves (b .0)) (left .2) (right .2)),
       )
 
   both-whole : (n : ℕ) → ((items : ℕ) (x : E) (t : List ℕ) → size x ≤ n → size x ≤ items → All WholeLeaf (leaves x) → reader items (exprBytes x ++ t) ≡ some (x, t))
@@ -108,7 +108,7 @@ module _ (reader : ℕ → Reader E) (items kind : ℕ) (join : E → E → E) (
       → bind (item kind 0 (exprBytes (join a b) ++ t)) (λ h. readBoth reader items join (h .1)) ≡ some (join a b, t)
   unfolding readBoth bind
   both-whole n whole a b t p q r =
-      let both = all-split WholeLeaf (leaves a) (leaves b) (rw (is .bodies) at r) in
+      let both = all-split WholeLeaf (leaves a) (leaves b) (rw (is .of-leaves) at r) in
       let count = is .items a b in
       rw (is .bytes, append-assoc, item-whole kind 0 []) (simp (
         whole items a (exprBytes b ++ t) (omega arith) (omega arith) (both .0),

@@ -1,7 +1,7 @@
 -- Words of document 01 that could be read in a second way and that its sample leaves open, as far as they are about bytes: each case is terms in
 -- bytes, beside the first of refusals 2 to 5 whose condition holds, or bytes of records, beside the condition of refusal 7 or 11; closed by
 -- computation. B1, B2, B4 to B6 and B8 number these readings; B3 is in the list over the calls. Beside them stands each of these refusals with its nearest accepted
--- neighbour. The expected outcomes are written from the document. Assumes nothing.
+-- neighbour, item 08 (document 02, wish 1) too. The expected outcomes are written from the documents. Assumes nothing.
 use Prim.Native.Nat.{ℕ, zero, suc, _-_}
 use mathlib.Core.Path.{refl}
 use mathlib.Core.Bool.{Bool, true, false}

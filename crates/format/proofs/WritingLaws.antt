@@ -1,4 +1,4 @@
--- Terms that are written are read back: kinds, heads and leaves in their bodies, whole terms in bytes. Assumes nothing.
+-- Terms that are written are read back: kinds and heads in their bodies, leaves in their items, whole terms in bytes. Assumes nothing.
 use Prim.Native.Nat.{ℕ, suc, _≤_, _<_, _^_}
 use native.Mathlib.Omega.{arith}
 use mathlib.Core.Path.{_≡_, refl, ap, ap₂, _∙_}

@@ -38,7 +38,7 @@ written buffer at bs = take at buffer ++ (bs ++ drop (at + length bs) buffer)
 abbrev pub Reader : Type 0 → Type 0
 Reader A = List ℕ → Option (A × List ℕ)
 
--- the first reading, or else the second (items 03 to 07)
+-- the first reading, or else the second (items 03 to 08)
 abbrev pub orElse : {A : Type 0} → Option A → Option A → Option A
 orElse none b = b
 orElse (some a) b = some a

@@ -1,5 +1,5 @@
 -- The fields of terms: what the bodies stand for, and refusals 3, 4 and 5, each over the whole file.
--- Document 01, 'Terms and log', 'Terms items' and 'Citation'; refusals 3, 4 and 5 of the table. Assumes nothing: these are definitions.
+-- Document 01, 'Terms and log', 'Terms items' and 'Citation'; refusals 3, 4 and 5 of the table; document 02, wish 1. Assumes nothing: these are definitions.
 use Prim.Native.Nat.{ℕ, _+_, _*_}
 use mathlib.Core.Bool.{Bool, true, false, cond, not, _&&_, _||_}
 use mathlib.Core.List.{List, [], map}

@@ -1,5 +1,5 @@
 -- The grammar of terms: items by their kind bytes and lengths alone, whatever their bodies hold.
--- Document 01, 'Terms and log', 'Terms items' and 'Grammar'; refusal 2 of the table. Assumes nothing: these are definitions.
+-- Document 01, 'Terms and log', 'Terms items' and 'Grammar'; refusal 2 of the table; document 02, wish 1. Assumes nothing: these are definitions.
 use Prim.Native.Nat.{ℕ, zero, suc, _+_, _-_, _≤_}
 use mathlib.Core.Path.{_≡_}
 use mathlib.Core.Bool.{Bool, not, _||_}

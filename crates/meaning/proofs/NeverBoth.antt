@@ -129,13 +129,12 @@ module _ (times : StageTimes) (terms : Terms) (subject : Record) where
             (reached (edgeOf (x .upper) h)) g h (window-empty log (edgeOf (x .lower) g) (edgeOf (x .upper) h) (x .event)))
 
     -- of a count
-    pub count-not-both : (x : CountLeaf)
-        → NotBoth (record { occurs = countTime times terms log subject (λ n. ltb (x .threshold) n) x; fails = countTime times terms log subject (λ n. leb n (x .threshold)) x })
-    unfolding countTime onceKnown laterOf
+    pub count-not-both : (x : CountLeaf) → NotBoth (timesOf times terms log subject (leaf (Counts x)))
+    unfolding timesOf countTime onceKnown laterOf
     count-not-both x = go (known times terms log subject (x .lower)) refl (known times terms log subject (x .upper)) refl
       where
         go : (lower : Time) → known times terms log subject (x .lower) ≡ lower → (upper : Time) → known times terms log subject (x .upper) ≡ upper
-            → NotBoth (record { occurs = countTime times terms log subject (λ n. ltb (x .threshold) n) x; fails = countTime times terms log subject (λ n. leb n (x .threshold)) x })
+            → NotBoth (timesOf times terms log subject (leaf (Counts x)))
         go Never e upper f = inl (rw e)
         go (At g) e Never f = inl (rw (e, f))
         go (At g) e (At h) f = rw (e, f) (by-number (countWithin times terms log subject (edgeOf (x .lower) g) (edgeOf (x .upper) h) (x .kind)) (x .threshold) (reached (edgeOf (x .upper) h)) g h)

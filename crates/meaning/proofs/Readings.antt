@@ -1,7 +1,7 @@
 -- Words of document 01 that could be read in a second way and that its sample leaves open, as far as they are about terms and records, not about
 -- bytes: each case is a log under terms, given as data, beside the rows that the words give, closed by computation. A1 to A13 number these readings.
--- Beside them stand the connectives, each type of norm, each sign of a bound, citations, the order of rows, and what refusals 8, 9, 12 and 16 ask of
--- records. The expected outcomes are written from the document. Assumes nothing.
+-- Beside them stand counts (document 02, wish 1), the connectives, each type of norm, each sign of a bound, citations, the order of rows, and what
+-- refusals 8, 9, 12 and 16 ask of records. The expected outcomes are written from the documents. Assumes nothing.
 use Prim.Native.Nat.{ℕ}
 use mathlib.Core.Path.{refl}
 use mathlib.Core.Bool.{Bool, true, false}
@@ -280,14 +280,18 @@ countCases =
     ∷ case (detaching (moreThan 0 1 (Minus F 15) (Plain 10)) (eAt 6 ++ fAt 20)) (occursAt 20)
     ∷ case (detaching (moreThan 0 1 (Plain 0) (Minus F 3)) (eAt 4 ++ fAt 20)) (occursAt 20)
     ∷ case (detaching (moreThan 0 1 (Plain 0) (Minus F 3)) (fAt 20)) (failsAt 20)
+    -- below zero counts as zero
+    ∷ case (detaching (moreThan 0 1 (Minus F 5) (Plain 10)) (eAt 0 ++ fAt 2)) (occursAt 10)
+    ∷ case (detaching (moreThan 0 1 (Plain 0) (Minus F 5)) (eAt 0 ++ fAt 2)) (failsAt 2)
     -- an empty window; the lower bound's value does not delay it
     ∷ case (detaching (moreThan 0 1 (Plain 20) (Plain 10)) (eAt 5)) (failsAt 10)
     ∷ case (detaching (moreThan 0 1 (Plain 5) (Plain 5)) (eAt 5)) (failsAt 5)
     -- records of another subject do not count; the subject counts itself
     ∷ case (detaching (moreThan 0 1 (Plain 0) (Plain 10)) (event 1 5 (8 ∷ 5 ∷ []))) (failsAt 10)
     ∷ case (reported (norm Authorization always (moreThan 0 0 (Plain 0) (Plain 9)) nothing) (sAt 3)) (rows (row Created 3 ∷ row Detached 9 ∷ []))
-    -- A6: a time past the last minute is none
-    ∷ case (reported (atTheEnd (moreThan 0 2 (Plain 0) (Plus (violated 0) 1))) (sAt 2147483647 ++ fAt 2147483647)) (endRows [])
+    -- A6: a time past the last minute is none, at a larger moment too; the bound's own value is neither cut nor wrapped
+    ∷ case (reportedAt 8589934592 (atTheEnd (moreThan 0 2 (Plain 0) (Plus (violated 0) 1))) (sAt 2147483647 ++ fAt 2147483647)) (endRows [])
+    ∷ case (reportedAt 8589934592 (atTheEnd (moreThan 0 2 (Plain 0) (Plus (violated 0) 2))) (sAt 2147483647)) (endRows [])
     ∷ case (reported (atTheEnd (moreThan 0 2 (Plain 0) (Plus (violated 0) 0))) (sAt 2147483647 ++ fAt 2147483647)) (endRows (rowOn 1 7 Detached 4294967294 ∷ []))
     -- under a connective
     ∷ case (detaching (except E10 (moreThan 0 2 (Plain 0) (Plain 20))) (eAt 5)) (occursAt 20)

@@ -6,10 +6,8 @@
 use Prim.Native.Nat.{ℕ, zero, suc, _+_, _*_, _≤_}
 use native.Mathlib.Omega.{arith}
 use mathlib.Core.Path.{_≡_, refl, ap, ap₂, sym, _∙_, fun-ext}
-use mathlib.Core.Bool.{Bool, true, false, cond}
+use mathlib.Core.Bool.{Bool}
 use mathlib.Core.List.{[], _∷_}
-use lib.Dec.{ltb}
-use borrow.Author.Tests.{ltb-false}
 use Rattle.meaning.specs.declared.Time.{Time}
 use Rattle.meaning.specs.declared.Time.the-variants.{Never}
 use Rattle.meaning.specs.declared.Stage.{Stage}
@@ -23,13 +21,14 @@ use Rattle.meaning.specs.declared.Atom.{Atom}
 use Rattle.meaning.specs.declared.Atom.the-variants.{Happens, Counts}
 use Rattle.meaning.specs.declared.Edge.{Edge}
 use Rattle.meaning.specs.declared.Edge.the-variants.{Minute, Endless}
-use Rattle.meaning.specs.Time.{laterOf, earlierOf, before, onlyIf}
+use Rattle.meaning.specs.Time.{laterOf, before, onlyIf}
 use Rattle.meaning.specs.Terms.{Terms, Expr, leaf, and, or, except, always, schemaAt, rank}
 use Rattle.meaning.specs.Log.{Record, Log}
 use Rattle.meaning.specs.Meaning.{StageTimes, cited, earliest, one, tally, fromEdge, beforeEdge, reached, timeBy, happening, first, firstWithin, known, leafOccurrence, failureAt, leafFailure, countWithin, countTime, timesOf, stageStep, timesWithin, stageTime}
 use Rattle.meaning.specs.Rows.{strike}
 use Rattle.meaning.proofs.TimeLaws.{Side, early, late, side, before-le, before-later, before-earlier, before-onceKnown, before-before, before-cut, before-never, before-ifNever, ifNever-never, before-onlyIf, onlyIf-never, onceKnown-never}
 use Rattle.meaning.proofs.EdgeLaws.{before-fromEdge, before-beforeEdge, never-within}
+use Rattle.meaning.proofs.GatherLaws.{earliest-gathers, tally-gathers, gathers-strike}
 use Rattle.meaning.proofs.RelatedTimes.{Kept, Related, and-related, or-related, except-related, stage-related}
 
 -- the records of a log that are stamped before m, in log order
@@ -44,16 +43,15 @@ Late m f = (r : Record) → m ≤ r .stamp → before m (f r) ≡ Never
 abbrev pub LateStages : ℕ → StageTimes → Type 0
 LateStages m times = (s : Stage) (j : ℕ) → Late m (times s j)
 
+-- what is before m of the earliest is the earliest of what is before m
+before-earliest : (m : ℕ) (f : Record → Time) (log : Log) → before m (earliest f log) ≡ earliest (λ r. before m (f r)) log
+unfolding earliest
+before-earliest m f [] = before-never m
+before-earliest m f (r ∷ log) = before-earlier m (f r) (earliest f log) ∙ rw (before-earliest m f log)
+
 -- only the records before m count for what is before m
 earliest-before : (m : ℕ) (f : Record → Time) → Late m f → (log : Log) → before m (earliest f log) ≡ earliest (λ r. before m (f r)) (recordsBefore m log)
-unfolding earliest strike earlierOf before
-earliest-before m f out [] = refl
-earliest-before m f out (r ∷ log) = before-earlier m (f r) (earliest f log) ∙ go (ltb (r .stamp) m) refl (earliest-before m f out log)
-  where
-    go : (b : Bool) → ltb (r .stamp) m ≡ b → before m (earliest f log) ≡ earliest (λ q. before m (f q)) (recordsBefore m log)
-        → earlierOf (before m (f r)) (before m (earliest f log)) ≡ earliest (λ q. before m (f q)) (cond b (r ∷ recordsBefore m log) (recordsBefore m log))
-    go true e ih = rw ih
-    go false e ih = rw (ih, out r (ltb-false (r .stamp) m e))
+earliest-before m f out log = before-earliest m f log ∙ gathers-strike (earliest-gathers (λ r. before m (f r))) m out log
 
 -- the same before m, for two ways to time the records and two logs alike before m
 pub earliest-same : (m : ℕ) (f g : Record → Time) → Late m f → Late m g → ((r : Record) → before m (f r) ≡ before m (g r))
@@ -77,17 +75,6 @@ earliest-early : (m : ℕ) (f : Record → Time) → ((r : Record) → before m 
 unfolding earliest before
 earliest-early m f in-time [] = refl
 earliest-early m f in-time (r ∷ log) = simp (before-earlier, in-time, earliest-early m f in-time log)
-
--- records that give no time may be left out of a tally
-tally-before : (m : ℕ) (f : Record → Time) → ((r : Record) → m ≤ r .stamp → f r ≡ Never) → (log : Log) → tally f log ≡ tally f (recordsBefore m log)
-unfolding tally strike one
-tally-before m f none [] = refl
-tally-before m f none (r ∷ log) = go (ltb (r .stamp) m) refl (tally-before m f none log)
-  where
-    go : (b : Bool) → ltb (r .stamp) m ≡ b → tally f log ≡ tally f (recordsBefore m log)
-        → one (f r) + tally f log ≡ tally f (cond b (r ∷ recordsBefore m log) (recordsBefore m log))
-    go true e ih = rw ih
-    go false e ih = rw (none r (ltb-false (r .stamp) m e)) (omega (arith, ih))
 
 -- what is before an edge that is not after m is before m
 within-early : (m : ℕ) (l : Edge) (u : ℕ) → u ≤ m → (t : Time) → before m (fromEdge l (beforeEdge (Minute u) t)) ≡ fromEdge l (beforeEdge (Minute u) t)
@@ -177,16 +164,19 @@ module _ (m : ℕ) (terms : Terms) (subject : Record) (times times′ : StageTim
   unfolding leafFailure
   leafFailure-same x = simp (before-onceKnown, known-same, failureAt-same)
 
-  -- and the very same records of a kind
+  -- and as many records of a kind
   count-equal : (l : Edge) (u : ℕ) → u ≤ m → (k : ℕ) → countWithin times terms log subject l (Minute u) k ≡ countWithin times′ terms log′ subject l (Minute u) k
-  unfolding countWithin happening timeBy
-  count-equal l u h k = tally-before m f late-f log ∙ ap (tally f) alike ∙ sym (tally-before m f late-f log′)
+  unfolding countWithin happening timeBy one
+  count-equal l u h k = leave-out log ∙ ap (tally f) alike ∙ sym (leave-out log′)
     where
       f : Record → Time
       f r = fromEdge l (beforeEdge (Minute u) (happening times terms subject (Kind k) r))
 
-      late-f : (r : Record) → m ≤ r .stamp → f r ≡ Never
-      late-f r p = sym (within-early m l u h (happening times terms subject (Kind k) r)) ∙ within-late times late-times l (Minute u) (Kind k) r p
+      late-f : (r : Record) → m ≤ r .stamp → one (f r) ≡ 0
+      late-f r p = ap one (sym (within-early m l u h (happening times terms subject (Kind k) r)) ∙ within-late times late-times l (Minute u) (Kind k) r p)
+
+      leave-out : (log : Log) → tally f log ≡ tally f (recordsBefore m log)
+      leave-out = gathers-strike (tally-gathers f) m late-f
 
   -- what is settled at an edge is the same before m: by the same records, or since the edge is not before m
   settled-same : (passes : ℕ → Bool) (l u : Edge) (k : ℕ)

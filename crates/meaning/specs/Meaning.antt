@@ -1,5 +1,5 @@
 -- When things happen, for one subject: events, bounds, leaves, expressions and the five stages.
--- Document 01, 'When things happen', and 'Citation' of 'Terms and log'. Assumes nothing: these are definitions.
+-- Document 01, 'When things happen', and 'Citation' of 'Terms and log'; document 02, wish 1. Assumes nothing: these are definitions.
 use Prim.Native.Nat.{ℕ, zero, suc, _+_, _-_, _*_}
 use mathlib.Core.Bool.{Bool, _&&_}
 use mathlib.Core.List.{[], _∷_}

@@ -1,5 +1,5 @@
 -- Terms: the event kinds and norm schemas that accepted bytes stand for. Nothing here knows of bytes or lengths.
--- Document 01, 'Terms and log', 'Terms items', 'Grammar' and 'Citation'. Assumes nothing: these are definitions.
+-- Document 01, 'Terms and log', 'Terms items', 'Grammar' and 'Citation'; document 02, wish 1. Assumes nothing: these are definitions.
 use Prim.Native.Nat.{ℕ, _+_, _*_}
 use mathlib.Core.List.{List, [], _∷_, _++_}
 use lib.ListN.{getD}

@@ -1,5 +1,5 @@
 -- Times: a minute, or none. `Time` is the enum of the code; its minute is any natural number here.
--- Document 01, 'When things happen'. Assumes nothing: these are definitions.
+-- Document 01, 'When things happen'; document 02, wish 1. Assumes nothing: these are definitions.
 use Prim.Native.Nat.{ℕ, min, max}
 use mathlib.Core.Bool.{Bool, true, false, cond}
 use lib.Dec.{leb, ltb}

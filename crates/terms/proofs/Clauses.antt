@@ -29,7 +29,7 @@ use Rattle.terms.specs.Questions.{askedOfLeaf, clauseHas, WalkedOver, Wa
 -- a connective has what either operand has
 join-has : {kind : ℕ} {join : E → E → E} → Connective kind join → (s : List ℕ) (q : Question) (a b : E) → clauseHas s q (join a b) ≡ (clauseHas s q a || clauseHas s q b)
 unfolding clauseHas
-join-has is s q a b = rw (is .bodies) (any-append (askedOfLeaf (termsOf s) q) (leaves a) (leaves b))
+join-has is s q a b = rw (is .of-leaves) (any-append (askedOfLeaf (termsOf s) q) (leaves a) (leaves b))
 
 module _ (s : List ℕ) (at items : ℕ) (w : StandsExpr s at items) where
   -- it stands within the bytes, and has an item

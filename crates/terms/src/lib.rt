@@ -260,14 +260,8 @@ fn expression_has(
             Walked::To(at + 1 + COUNT_BODY, items - 1)
         }
         AND | OR | EXCEPT => {
-            let Walked::To(middle, left) = expression_has(
-                terms,
-                kinds,
-                starts,
-                question,
-                at + 1,
-                items - 1,
-            ) else {
+            let first = expression_has(terms, kinds, starts, question, at + 1, items - 1);
+            let Walked::To(middle, left) = first else {
                 return Walked::Found;
             };
             expression_has(terms, kinds, starts, question, middle, left)

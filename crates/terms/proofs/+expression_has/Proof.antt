@@ -60,13 +60,13 @@ leaf-answers t c =
     let a = c .before .before .before .before .before .before .args in
     leaf-found _ _ (a .at) (a .items) leaf-item (c .before .before .match .keys1) (c .before .leaf-has .ensures) (c .if1 .taken)
 
-leaf-add-1 : (t : ℕ) → lts.Need-add-t14 (claims t) (entry t) expression-has.Post
+leaf-add-1 : (t : ℕ) → lts.Need-add-t15 (claims t) (entry t) expression-has.Post
 leaf-add-1 t c = omega (arith, leaf-here t (c .before .before))
 
-leaf-add-body : (t : ℕ) → lts.Need-add-t15 (claims t) (entry t) expression-has.Post
+leaf-add-body : (t : ℕ) → lts.Need-add-t16 (claims t) (entry t) expression-has.Post
 leaf-add-body t c = omega (arith, leaf-here t (c .before .before))
 
-leaf-sub : (t : ℕ) → lts.Need-sub-t16 (claims t) (entry t) expression-has.Post
+leaf-sub : (t : ℕ) → lts.Need-sub-t17 (claims t) (entry t) expression-has.Post
 leaf-sub t c = omega (arith, here t (c .before .before .before .before .before .before))
 
 count-asks : (t : ℕ) → lts.Need-count-has-requires (claims t) (entry t) expression-has.Post
@@ -79,13 +79,13 @@ count-answers t c =
     let a = c .before .before .before .before .before .before .args in
     leaf-found _ _ (a .at) (a .items) count-item (c .before .before .match .keys2) (c .before .count-has .ensures) (c .if2 .taken)
 
-count-add-1 : (t : ℕ) → lts.Need-add-t18 (claims t) (entry t) expression-has.Post
+count-add-1 : (t : ℕ) → lts.Need-add-t19 (claims t) (entry t) expression-has.Post
 count-add-1 t c = omega (arith, count-here t (c .before .before))
 
-count-add-body : (t : ℕ) → lts.Need-add-t19 (claims t) (entry t) expression-has.Post
+count-add-body : (t : ℕ) → lts.Need-add-t20 (claims t) (entry t) expression-has.Post
 count-add-body t c = omega (arith, count-here t (c .before .before))
 
-count-sub : (t : ℕ) → lts.Need-sub-t20 (claims t) (entry t) expression-has.Post
+count-sub : (t : ℕ) → lts.Need-sub-t21 (claims t) (entry t) expression-has.Post
 count-sub t c = omega (arith, here t (c .before .before .before .before .before .before))
 
 add-first : (t : ℕ) → lts.Need-add-expression-has (claims t) (entry t) expression-has.Post
@@ -110,8 +110,8 @@ second-asks t c κs =
     let a = c .before .before .before .before .before .before .before .before .before .before in
     let w = a .pre .1 .1 in
     let walks = c .before .before .before .expression-has .ensures in (
-      omega (arith, first-falls _ _ (a .args .at) (a .args .items) (omega arith) (omega arith) walks (c .before .middle .given .1) w),
-      (a .pre .1 .0, stands-second _ _ (a .args .at) (a .args .items) (omega arith) (omega arith) walks (c .before .middle .given .1) w),
+      omega (arith, first-falls _ _ (a .args .at) (a .args .items) (omega arith) (omega arith) walks (c .before .first .given .1) w),
+      (a .pre .1 .0, stands-second _ _ (a .args .at) (a .args .items) (omega arith) (omega arith) walks (c .before .first .given .1) w),
     )
 
 add-always : (t : ℕ) → lts.Need-add-t25 (claims t) (entry t) expression-has.Post
@@ -136,7 +136,7 @@ in-second : (t : ℕ) → lts.Need-returns-6 (claims t) (entry t) expression-has
 unfolding byteAt
 in-second t c =
     let a = c .before .before .before .before .before .before .before .before .before .before .before .args in
-    second-walks _ _ (a .at) (a .items) (omega arith) (omega arith) (c .before .before .before .before .expression-has .ensures) (c .before .before .middle .given .1) (c .expression-has2 .result) (c .expression-has2 .ensures)
+    second-walks _ _ (a .at) (a .items) (omega arith) (omega arith) (c .before .before .before .before .expression-has .ensures) (c .before .before .first .given .1) (c .expression-has2 .result) (c .expression-has2 .ensures)
 
 past-always : (t : ℕ) → lts.Need-returns-7 (claims t) (entry t) expression-has.Post
 unfolding byteAt
