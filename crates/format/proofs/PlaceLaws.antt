@@ -248,7 +248,7 @@ pub count-wrong-here : (terms : Terms) (s : List ℕ) (at : ℕ) → byteAt s at
     ≡ (leb (length (terms .kinds)) (byteAt s (at + 1)) || eqb (byteAt s (at + 6)) 3 || boundWrong terms s (at + 6) || eqb (byteAt s (at + 13)) 3 || boundWrong terms s (at + 13))
 unfolding leafWrong countWrong
 count-wrong-here terms s at b =
-    rw (
+    simp (
       byte-first s at 20 (omega arith) ∙ b,
       byte-within s at 1 20 (omega arith),
       byte-within s at 6 20 (omega arith),

@@ -1,6 +1,8 @@
 -- `count_at` meets its contract: each answer by what is read so far. Assumes nothing.
+use Prim.Native.Nat.{_+_}
+use mathlib.Core.Path.{_≡_, sym}
 use borrow.Author.Needs.{needs}
-use Rattle.format.specs.Bytes.{byteAt}
+use Rattle.format.specs.Bytes.{byteAt, numberAt}
 use Rattle.format.proofs.PlaceLaws.{count-here}
 use Rattle.fields.proofs.count_at.Statement.{statement}
 use Rattle.fields.proofs.count_at.Tie as tie
@@ -29,9 +31,11 @@ returns-3 c =
     let u = c .before in
     let l = u .before .before .before .before in
     let number = l .before .before .before in
+    let a = number .before .before .before .args in
+    let threshold : numberAt 4 (a .terms .now) (a .at + 2) ≡ number .u32-at .result = sym (number .u32-at .ensures) in
     rw (
       count-here _ _ (number .before .before .before .pre .0),
-      ← number .u32-at .ensures,
+      threshold,
       ← l .before .before .bound-at .ensures,
       l .lower .given .1,
       ← u .before .before .bound-at2 .ensures,

@@ -1,6 +1,9 @@
 -- `count_wrong` meets its contract: each answer by the tests before it. Assumes nothing.
 use Prim.Native.Nat.{_+_}
 use native.Mathlib.Omega.{arith}
+use mathlib.Core.Path.{_≡_}
+use mathlib.Core.Bool.{true, false}
+use lib.Dec.{eqb}
 use borrow.Author.Needs.{needs}
 use borrow.Author.Tests.{le-leb, lt-leb, eq-eqb, ne-eqb}
 use Rattle.format.specs.Bytes.{byteAt}
@@ -33,6 +36,8 @@ unfolding byteAt
 returns-4 c t h =
     let l = c .before .before .before in
     let k = l .before .before .before in
+    let a = k .before .before .before .args in
+    let is-open : eqb (byteAt (a .terms .now) (a .at + 13)) 3 ≡ true = eq-eqb _ _ (c .if4 .taken) in
     rw (
       count-wrong-here t _ _ (k .before .before .before .pre .0),
       ← h,
@@ -40,7 +45,7 @@ returns-4 c t h =
       ne-eqb _ _ (l .before .if2 .left),
       ← l .bound-wrong .ensures t h,
       c .before .before .if3 .left,
-      eq-eqb _ _ (c .if4 .taken),
+      is-open,
     )
 
 returns-5 : tie.Need-returns-5
@@ -48,6 +53,8 @@ unfolding byteAt
 returns-5 c t h =
     let l = c .before .before .before .before in
     let k = l .before .before .before in
+    let a = k .before .before .before .args in
+    let not-open : eqb (byteAt (a .terms .now) (a .at + 13)) 3 ≡ false = ne-eqb _ _ (c .before .if4 .left) in
     rw (
       count-wrong-here t _ _ (k .before .before .before .pre .0),
       ← h,
@@ -55,7 +62,7 @@ returns-5 c t h =
       ne-eqb _ _ (l .before .if2 .left),
       ← l .bound-wrong .ensures t h,
       c .before .before .before .if3 .left,
-      ne-eqb _ _ (c .before .if4 .left),
+      not-open,
       c .bound-wrong2 .ensures t h,
     )
 
