@@ -1,11 +1,13 @@
 // What the calls answer. No call stands here.
+#![tactic(auto)]
+
 ghost use Rattle.std.specs.Prelude.{◌≡◌};
 ghost use Rattle.calls.specs.Answers.{refusal_number};
 
 use meaning::Entries;
 
 // Why a call is refused, in the order of the table.
-#[derive(Drop)]
+#[derive(Clone, Copy)]
 pub enum Refusal {
     TermsTooLong,
     BrokenGrammar,
@@ -52,28 +54,28 @@ impl Refusal {
 }
 
 // What a check answers.
-#[derive(Drop)]
+#[derive(Clone, Copy)]
 pub enum Checked {
     Accepted,
     Refused(Refusal),
 }
 
 // What an append answers: the new used length.
-#[derive(Drop)]
+#[derive(Clone, Copy)]
 pub enum Appended {
     Length(usize),
     Refused(Refusal),
 }
 
 // What a report answers: how many rows it wrote.
-#[derive(Drop)]
+#[derive(Clone, Copy)]
 pub enum Reported {
     Count(usize),
     Refused(Refusal),
 }
 
 // What a standing answers.
-#[derive(Drop)]
+#[derive(Clone, Copy)]
 pub enum Standing {
     Shown(Entries),
     Refused(Refusal),

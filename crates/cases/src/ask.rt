@@ -13,14 +13,14 @@ const LONG: usize = 18446744073709551615;
 pub(crate) const PAGE_LENGTH: usize = 65520;
 
 // Which rows are struck from a report once it is given: those timed at a moment or later, or none.
-#[derive(Drop)]
+#[derive(Clone, Copy)]
 pub(crate) enum Struck {
     From(u32),
     Nothing,
 }
 
 // The call: 1; 2; 3; 4 with its moment, how many bytes of the page it is lent, and what is struck; 5 with its schema, key and moment.
-#[derive(Drop)]
+#[derive(Clone, Copy)]
 pub(crate) enum Ask {
     Terms,
     Log,
@@ -30,14 +30,14 @@ pub(crate) enum Ask {
 }
 
 // How far the text is read, and which rows are struck.
-#[derive(Drop)]
+#[derive(Clone, Copy)]
 struct Striking {
     at: usize,
     struck: Struck,
 }
 
 // How far the text is read, and the call that is asked for there.
-#[derive(Drop)]
+#[derive(Clone, Copy)]
 pub(crate) struct Call {
     pub at: usize,
     pub ask: Ask,

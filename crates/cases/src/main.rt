@@ -1,5 +1,7 @@
 // Runs the five calls on the cases of its input and prints what each answers.
 // The first lines of the file stdin say how a case is written.
+#![tactic(auto)]
+
 mod ask;
 mod runs;
 mod show;
@@ -18,14 +20,14 @@ use show::show_bad;
 use text::{NO_BYTE, Number, ends_word, pair, past, read_number, skip, word_end};
 
 // How far the text is read, and how many bytes of a buffer are filled.
-#[derive(Drop)]
+#[derive(Clone, Copy)]
 struct Filled {
     at: usize,
     length: usize,
 }
 
 // Where a name starts and ends, and how far the text is read.
-#[derive(Drop)]
+#[derive(Clone, Copy)]
 struct Name {
     start: usize,
     end: usize,
@@ -33,7 +35,7 @@ struct Name {
 }
 
 // How far the text is read, how many bytes the log buffer has, and the used length.
-#[derive(Drop)]
+#[derive(Clone, Copy)]
 struct Held {
     at: usize,
     log: usize,
@@ -41,7 +43,7 @@ struct Held {
 }
 
 // What a case leaves to the next one: how many bytes the terms and the log buffer have, and the used length that goes on.
-#[derive(Drop)]
+#[derive(Clone, Copy)]
 struct Left {
     terms: usize,
     log: usize,
@@ -50,7 +52,7 @@ struct Left {
 
 // A case: where its name starts and ends, how far the text is read, how many bytes its terms, its log buffer and its event have, the used
 // length, and what is asked for.
-#[derive(Drop)]
+#[derive(Clone, Copy)]
 struct Case {
     name: usize,
     until: usize,

@@ -8,8 +8,8 @@ use crate::show::{
 };
 use crate::strike::strike;
 use append::append;
+use event_log::check_log;
 use grammar::byte_at;
-use log::check_log;
 use report::{report, standing};
 use terms::check_terms;
 

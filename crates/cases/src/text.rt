@@ -10,7 +10,7 @@ pub(crate) const NO_BYTE: u16 = 256;
 const NUMBER_LIMIT: usize = 1844674407370955160;
 
 // How far the text is read, and the number that stood there.
-#[derive(Drop)]
+#[derive(Clone, Copy)]
 pub(crate) struct Number {
     pub at: usize,
     pub value: usize,

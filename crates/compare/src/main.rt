@@ -6,6 +6,8 @@
 //   5 to 7   moment, schema number, key
 //   8 to 19  answers: call 1; call 2; call 3 and its length; call 4 and its count; call 5 and its five entries
 // The bytes are terms, log buffer, event; then the buffer as call 3 left it, and the page as call 4 did.
+#![tactic(auto)]
+
 mod answers;
 
 ghost use Rattle.std.specs.Prelude.{◌+◌, ◌≤◌, length};
@@ -14,7 +16,7 @@ ghost use Rattle.io.specs.Counts.{IsPrefixLen};
 use answers::{number, same_appended, same_checked, same_reported, same_standing};
 use append::append;
 use console::{at_end, fill, say, say_number};
-use log::check_log;
+use event_log::check_log;
 use report::{report, standing};
 use terms::check_terms;
 
@@ -39,7 +41,7 @@ const PAGE_ROOM: usize = 2000;
 const AFTER_ROOM: usize = 34800;
 
 // What comes of a case: whether the input has all of its bytes, and how many of its answers differ.
-#[derive(Drop)]
+#[derive(Clone, Copy)]
 struct Compared {
     whole: bool,
     different: usize,

@@ -1,4 +1,6 @@
 // What the programs read and print: buffers filled from standard input; words, numbers, refusals and rows on standard output.
+#![tactic(auto)]
+
 ghost use Rattle.std.specs.Prelude.{◌+◌, ◌≤◌, length};
 
 use calls::Refusal;

@@ -1,4 +1,6 @@
 // What the bodies of items hold: kinds, events, bounds, leaves and counts at a place of terms, and refusal 3 at each of them.
+#![tactic(auto)]
+
 ghost use Rattle.std.specs.Prelude.{◌≡◌, ◌+◌, ◌*◌, ◌<◌, ◌≤◌, length, take, drop};
 ghost use Rattle.meaning.specs.Terms.{Terms, kind_at};
 ghost use Rattle.meaning.specs.Log.{carries};
@@ -41,14 +43,14 @@ pub const PROHIBITION: u8 = 3;
 pub const POWER: u8 = 4;
 
 // What a form and a number name: an event, or none.
-#[derive(Drop)]
+#[derive(Clone, Copy)]
 pub enum EventForm {
     Is(Event),
     NotAnEvent,
 }
 
 // What seven bytes name: a bound, or none.
-#[derive(Drop)]
+#[derive(Clone, Copy)]
 pub enum BoundForm {
     Is(Bound),
     NotABound,
@@ -56,7 +58,7 @@ pub enum BoundForm {
 
 // What an expression at a place is: a leaf or a count; a connective, with the place of its second operand and how many items that one may have; always;
 // or nothing that can be read.
-#[derive(Drop)]
+#[derive(Clone, Copy)]
 pub enum Expression {
     Leaf(Atom),
     And(usize, usize),
@@ -67,7 +69,7 @@ pub enum Expression {
 }
 
 // Where the second operand of a connective starts, and how many items it may have; or nothing, where one of the two can't be read.
-#[derive(Drop)]
+#[derive(Clone, Copy)]
 enum Operands {
     Second(usize, usize),
     Nothing,

@@ -1,4 +1,6 @@
 // The reading of terms by kind bytes and lengths alone: what stands where.
+#![tactic(auto)]
+
 ghost use Rattle.std.specs.Prelude.{◌≡◌, ℕ, ◌+◌, ◌*◌, ◌<◌, ◌≤◌, length, drop};
 ghost use Rattle.format.specs.Bytes.{byte_at, number_at, many, item};
 ghost use Rattle.format.specs.Grammar.{kinds_limit, read_clause, file_of};
@@ -35,21 +37,21 @@ pub const KINDS_LIMIT: usize = 32;
 pub const SCHEMAS_LIMIT: usize = 16;
 
 // What is read at a place: something up to an end, or nothing.
-#[derive(Drop)]
+#[derive(Clone, Copy)]
 pub enum Reading {
     To(usize),
     Nothing,
 }
 
 // An expression read at a place: the place behind it, and how many items are left of those that it may have; or nothing.
-#[derive(Drop)]
+#[derive(Clone, Copy)]
 pub enum ExpressionReading {
     To(usize, usize),
     Nothing,
 }
 
 // Where the clauses of a schema start, and where the last one ends.
-#[derive(Drop)]
+#[derive(Clone, Copy)]
 struct Clauses {
     create: usize,
     detach: usize,
@@ -58,14 +60,14 @@ struct Clauses {
 }
 
 // A schema read at a place: where its clauses are; or nothing.
-#[derive(Drop)]
+#[derive(Clone, Copy)]
 enum SchemaReading {
     Is(Clauses),
     Nothing,
 }
 
 // What is read of terms: how many kinds and schemas, where the bytes left unread start, and where the clause of each rank starts.
-#[derive(Drop)]
+#[derive(Clone, Copy)]
 pub struct Layout {
     pub kinds: usize,
     pub schemas: usize,

@@ -1,10 +1,12 @@
 // Lists a report. Standard input is three numbers of four bytes (how long the terms are, how long the log is, the moment), then both.
+#![tactic(auto)]
+
 ghost use Rattle.std.specs.Prelude.{◌≡◌, length};
 
 use calls::Reported;
 use console::{at_end, fill, say, say_refusal, say_rows};
+use event_log::LOG_LIMIT;
 use grammar::u32_at;
-use log::LOG_LIMIT;
 use report::report;
 use terms::TERMS_LIMIT;
 

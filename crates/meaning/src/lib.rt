@@ -1,10 +1,12 @@
 // The types that the engine's code and its definitions share; those of answers are in `calls`. No call stands here.
+#![tactic(auto)]
+
 ghost use Rattle.std.specs.Prelude.{◌≡◌};
 ghost use Rattle.meaning.specs.Time.{later_of, earlier_of};
 ghost use Rattle.meaning.specs.Stages.{stage_of, stage_number};
 
 // A minute at which something happens, or none.
-#[derive(Drop)]
+#[derive(Clone, Copy)]
 pub enum Time {
     At(u32),
     Never,
@@ -39,7 +41,7 @@ impl Time {
 }
 
 // The stages of an agreement.
-#[derive(Drop)]
+#[derive(Clone, Copy)]
 pub enum Stage {
     Created,
     Detached,
@@ -49,7 +51,7 @@ pub enum Stage {
 }
 
 // What a form byte names: a stage, or none.
-#[derive(Drop)]
+#[derive(Clone, Copy)]
 pub enum StageForm {
     Is(Stage),
     NotAStage,
@@ -95,7 +97,7 @@ impl Stage {
 }
 
 // The types of norm.
-#[derive(Drop)]
+#[derive(Clone, Copy)]
 pub enum NormType {
     Commitment,
     Authorization,
@@ -104,14 +106,14 @@ pub enum NormType {
 }
 
 // What a leaf or a bound refers to: records of a kind, or a stage of the schema with that number.
-#[derive(Drop)]
+#[derive(Clone, Copy)]
 pub enum Event {
     Kind(u8),
     StageOf(Stage, u8),
 }
 
 // An end of a window: an offset, an event plus or minus an offset, or no end.
-#[derive(Drop)]
+#[derive(Clone, Copy)]
 pub enum Bound {
     Plain(u32),
     Plus(Event, u32),
@@ -120,7 +122,7 @@ pub enum Bound {
 }
 
 // An event that is to happen from the lower bound up to the upper one.
-#[derive(Drop)]
+#[derive(Clone, Copy)]
 pub struct Leaf {
     pub event: Event,
     pub lower: Bound,
@@ -128,7 +130,7 @@ pub struct Leaf {
 }
 
 // More than so many records of a kind, from the lower bound up to the upper one.
-#[derive(Drop)]
+#[derive(Clone, Copy)]
 pub struct CountLeaf {
     pub kind: u8,
     pub threshold: u32,
@@ -137,28 +139,28 @@ pub struct CountLeaf {
 }
 
 // A leaf of an expression: an event that happens in a window, or records that are counted in one.
-#[derive(Drop)]
+#[derive(Clone, Copy)]
 pub enum Atom {
     Happens(Leaf),
     Counts(CountLeaf),
 }
 
 // A bound's value: a minute, past the last one too, or no end.
-#[derive(Drop)]
+#[derive(Clone, Copy)]
 pub enum Edge {
     Minute(u64),
     Endless,
 }
 
 // When an expression occurs, and when it fails.
-#[derive(Drop)]
+#[derive(Clone, Copy)]
 pub struct Times {
     pub occurs: Time,
     pub fails: Time,
 }
 
 // A row of a report: a stage of a schema's agreement, its subject's key, the parties, and since which minute.
-#[derive(Drop)]
+#[derive(Clone, Copy)]
 pub struct Row {
     pub stage: Stage,
     pub schema: u8,
@@ -169,7 +171,7 @@ pub struct Row {
 }
 
 // The five entries of a standing. Never stands for not yet.
-#[derive(Drop)]
+#[derive(Clone, Copy)]
 pub struct Entries {
     pub created: Time,
     pub detached: Time,

@@ -1,4 +1,6 @@
 // An answer of calls 1 to 4 in one 64-bit number, for the library service.
+#![tactic(auto)]
+
 ghost use Rattle.std.specs.Prelude.{◌≡◌, ◌+◌, ◌*◌, ◌<◌, ◌^◌};
 ghost use Rattle.calls.specs.Answers.{checked_answer, appended_answer, reported_answer, packed};
 

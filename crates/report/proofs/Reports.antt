@@ -18,7 +18,7 @@ use Rattle.format.specs.Records.{value_width, row_length}
 use Rattle.calls.specs.Answers.{checked_answer, reported_answer}
 use Rattle.calls.specs.Calls.{Check, refusal, log_checks, page_too_short, page_checks, check_log, outcome, unless_refused, on_page, rows_of, report}
 use Rattle.calls.proofs.WriteLaws.{refused-outcome}
-use Rattle.log.proofs.Checks.{log-refused}
+use Rattle.event_log.proofs.Checks.{log-refused}
 use Rattle.report.specs.Shown.{schemas_from, with_rows}
 use Rattle.report.proofs.RowSteps.{all-rows}
 

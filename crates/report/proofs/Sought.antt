@@ -32,7 +32,7 @@ use Rattle.calls.proofs.StandingLaws.{refused-entries}
 use Rattle.records.specs.Holds.{record_at}
 use Rattle.records.proofs.Steps.{Step}
 use Rattle.index.specs.declared.Place.TheVariants as place
-use Rattle.log.proofs.Checks.{log-refused}
+use Rattle.event_log.proofs.Checks.{log-refused}
 use Rattle.evaluate.specs.Seen.{log_in, record_in}
 use Rattle.report.specs.Shown.{entries_in, FoundAt}
 use Rattle.report.proofs.RowSteps.{is-subject}

@@ -1,4 +1,6 @@
 // Calls 4 and 5: a report on a lent page, and the standing of one agreement.
+#![tactic(auto)]
+
 mod rows;
 
 ghost use Rattle.std.specs.Prelude.{◌≡◌};
@@ -13,9 +15,9 @@ ghost use Rattle.evaluate.specs.Seen.{record_in};
 ghost use Rattle.report.specs.Shown.{FoundAt};
 
 use calls::{Checked, Refusal, Reported, Standing};
+use event_log::check_log_under;
 use grammar::{Reading, read_layout};
 use index::Place;
-use log::check_log_under;
 use records::{key_at, read_record, stamp_at};
 use rows::{Asked, entries_of, too_short, write_rows};
 use table::{TABLE_LENGTH, schema_count, subject_of};

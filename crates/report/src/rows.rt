@@ -24,7 +24,7 @@ use table::{VALUE_WIDTH, head_at, mask_in, norm_type, schema_count, subject_of};
 use times::{Needed, before, consequent_needs_all, stage_from};
 
 // What is asked for: the subject at a place, under a schema, at a moment.
-#[derive(Drop)]
+#[derive(Clone, Copy)]
 pub(crate) struct Asked {
     pub(crate) subject: usize,
     pub(crate) schema: usize,
@@ -32,7 +32,7 @@ pub(crate) struct Asked {
 }
 
 // What all rows of a subject under a schema have in common.
-#[derive(Drop)]
+#[derive(Clone, Copy)]
 struct Agreement {
     schema: u8,
     key: u32,

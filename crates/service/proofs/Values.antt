@@ -23,7 +23,7 @@ use Rattle.format.proofs.GrammarLaws.{file-read}
 use Rattle.calls.proofs.RefusalLaws.{report-accepted}
 use Rattle.calls.proofs.WriteLaws.{report-refused, append-refused, report-keeps, append-keeps}
 use Rattle.terms.proofs.Faults.{schemas_count}
-use Rattle.log.proofs.Checks.{used-short}
+use Rattle.event_log.proofs.Checks.{used-short}
 
 -- where each element gives at most k others, all of them give at most k times as many
 few-each : {A B : Type 0} (k : ℕ) (f : A → List B) → ((x : A) → length (f x) ≤ k) → (l : List A) → length (flat_map f l) ≤ k * length l

@@ -1,4 +1,6 @@
 // Calls 1 to 4 for the library service, which is written in C: each answers one 64-bit number.
+#![tactic(auto)]
+
 ghost use Rattle.std.specs.Prelude.{◌≡◌};
 ghost use Rattle.format.specs.Records.{value_width};
 ghost use Rattle.calls.specs.Answers.{packed};
@@ -19,7 +21,7 @@ pub extern "C" fn agreements_check_terms(terms: &[u8]) -> u64
 pub extern "C" fn agreements_check_log(terms: &[u8], log: &[u8], used: usize) -> u64
     ensures { result ≡ packed (check_log value_width terms.now log.now used) }
 {
-    pack_checked(log::check_log(terms, log, used))
+    pack_checked(event_log::check_log(terms, log, used))
 }
 
 // Call 3: append an event to a log.

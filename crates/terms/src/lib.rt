@@ -1,4 +1,6 @@
 // Call 1, check terms: the grammar, then fields, citations and shared attributes, each over the whole file.
+#![tactic(auto)]
+
 ghost use Rattle.std.specs.Prelude.{◌≡◌, List, ◌∷◌, ◌++◌, ℕ, ◌+◌, ◌-◌, ◌*◌, ◌<◌, ◌≤◌, length, get_or, take, drop};
 ghost use Rattle.meaning.specs.Lists.{numbers_from, any_of};
 ghost use Rattle.meaning.specs.Terms.{Expr, schema_at, kind_of, rank, bound_events, leaf_events};
@@ -21,28 +23,28 @@ pub const TERMS_LIMIT: usize = 16384;
 
 // What may be asked of an event: whether it cites a stage that does not rank below a clause; whether its kind shares nothing
 // with the subject kind.
-#[derive(Drop)]
+#[derive(Clone, Copy)]
 pub enum EventQuestion {
     CitesFrom(usize),
     SharesNone(u8),
 }
 
 // What may be asked of a leaf: whether a field is out of range, or a question about some event of it.
-#[derive(Drop)]
+#[derive(Clone, Copy)]
 pub enum Question {
     OutOfRange,
     SomeEvent(EventQuestion),
 }
 
 // What a question finds in an expression: some leaf has it; or none has, and the expression ends at a place, with so many items left.
-#[derive(Drop)]
+#[derive(Clone, Copy)]
 enum Walked {
     Found,
     To(usize, usize),
 }
 
 // The fault of refusals 3, 4 and 5 at a schema.
-#[derive(Drop)]
+#[derive(Clone, Copy)]
 pub enum Fault {
     Field,
     Citation,

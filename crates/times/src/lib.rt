@@ -1,4 +1,6 @@
 // Times alone: the edges of a window, and a stage's time from the times of its clauses.
+#![tactic(auto)]
+
 ghost use Rattle.std.specs.Prelude.{◌≡◌, ◌+◌, ◌-◌};
 ghost use Rattle.meaning.specs.Time.{later_of, before};
 ghost use Rattle.meaning.specs.Meaning.{from_edge, before_edge, reached, and_of, or_of, except_of, stage_from};
@@ -10,7 +12,7 @@ use meaning::{Edge, NormType, Stage, Time, Times};
 pub const LAST_MINUTE: u64 = 4294967294;
 
 // Which of a clause's two times a stage needs.
-#[derive(Drop)]
+#[derive(Clone, Copy)]
 pub enum Needed {
     Neither,
     Occurrence,

@@ -10,7 +10,7 @@ use Rattle.calls.specs.Calls.{Check, refusal, log_checks}
 use Rattle.calls.proofs.RefusalLaws.{LogAccepted}
 use Rattle.index.specs.Chains.{Ready}
 use Rattle.index.proofs.Links.{table_empty}
-use Rattle.log.proofs.Checks.{used-inside, log-kept}
+use Rattle.event_log.proofs.Checks.{used-inside, log-kept}
 use Rattle.report.proofs.Reports.{report-refused, report-short, report-written}
 use Rattle.report.proofs.report.Statement.{statement}
 use Rattle.report.proofs.report.Tie as tie

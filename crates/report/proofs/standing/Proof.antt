@@ -15,7 +15,7 @@ use Rattle.terms.proofs.Faults.{schemas_count}
 use Rattle.index.specs.declared.Place.TheVariants.{At}
 use Rattle.index.specs.Chains.{Ready}
 use Rattle.index.proofs.Links.{table_empty}
-use Rattle.log.proofs.Checks.{used-inside, log-kept}
+use Rattle.event_log.proofs.Checks.{used-inside, log-kept}
 use Rattle.report.specs.Shown.{FoundAt}
 use Rattle.report.proofs.Sought.{standing-refused, standing-past, standing-nobody, standing-shown}
 use Rattle.report.proofs.standing.Statement.{statement}
