@@ -46,7 +46,7 @@ mem-flat_map {A} f (x ∷ l) {y} m = go (mem-flat_map f l) (Memᴰ.append_cases 
     go ih (inr k) = let found = ih k in (found.0, Memᴰ.tail found.1, found.2)
 
 -- And what stands in the list of one of them stands there.
-pub flat_map-mem : {A B : Type 0} (f : A → List B) {l : List A} {x : A} {y : B} → Memᴰ x l → Memᴰ y (f x) → Memᴰ y (flat_map f l)
+pub flat_map-mem : {A B : Type 0} (f : A → List B) {x : A} {l : List A} {y : B} → Memᴰ x l → Memᴰ y (f x) → Memᴰ y (flat_map f l)
 unfolding flat_map
 flat_map-mem f {y = y} (Memᴰ.head {xs = l} e) k = Memᴰ.append_left (flat_map f l) (subst (λ z. Memᴰ y (f z)) e k)
 flat_map-mem f (Memᴰ.tail {x = q} m) k = Memᴰ.append_right (f q) (flat_map-mem f m k)
@@ -130,7 +130,7 @@ unfolding numbers_from
 distinct-numbers n zero = tt
 distinct-numbers n (suc count) = (λ m. omega (arith, mem-numbers (suc n) count m), distinct-numbers (suc n) count)
 
-map-mem : {A B : Type 0} (g : A → B) {l : List A} {x : A} → Memᴰ x l → Memᴰ (g x) (map g l)
+map-mem : {A B : Type 0} (g : A → B) {x : A} {l : List A} → Memᴰ x l → Memᴰ (g x) (map g l)
 map-mem g (Memᴰ.head e) = Memᴰ.head (ap g e)
 map-mem g (Memᴰ.tail m) = Memᴰ.tail (map-mem g m)
 
