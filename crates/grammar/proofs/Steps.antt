@@ -8,7 +8,7 @@ use native.Mathlib.Omega.{arith}
 use mathlib.Core.Path.{◌≡◌, refl, ap, sym, ◌∙◌}
 use mathlib.Core.Bool.{Bool, true, false}
 use mathlib.Core.List.{List, [], ◌∷◌, ◌++◌}
-use mathlib.Core.Option.{some, bind}
+use mathlib.Core.Option.{none, some, bind}
 use lib.Dec.{ltb}
 use lib.ListN.{length, get_or, take, drop, set, length-append, length-drop, length-set, get_or-append}
 use lib.Seq.{drop-drop, take_at, get_or_at, get_or-set_same, get_or-set_other}
@@ -60,7 +60,7 @@ module _ (items : ℕ) (s : List ℕ) (at : ℕ) where
   -- no items are left
   pub expr-no-items : items ≡ 0 → Reads items s at expression.Nothing
   unfolding read_expr
-  expr-no-items e n h = rw e (elim n [ zero ↦ refl | suc n ↦ refl ])
+  expr-no-items e n h = rw e (elim n as (λ k. read_expr k 0 (drop at s) ≡ none) [ zero ↦ refl | suc n ↦ refl ])
 
   -- no kind byte of an expression
   pub expr-no-kind : (3 ≤ byte_at s at → byte_at s at ≤ 8 → ⊥) → Reads items s at expression.Nothing

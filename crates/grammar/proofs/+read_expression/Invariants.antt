@@ -1,0 +1,5 @@
+-- The items fall at each call.
+use Rattle.grammar.proofs.+read_expression.Given as goal
+
+abbrev pub decreases-read_expression : goal.decreases-read_expression
+decreases-read_expression l = l.items
