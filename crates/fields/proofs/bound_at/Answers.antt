@@ -33,4 +33,4 @@ returns-in-3 c = rw c.in-3.is
 
 pub returns-in_default : goal.returns-in_default
 unfolding bound_of byte_at
-returns-in_default c = simp (ne_eqb _ _ c.in-0.rest.1, ne_eqb _ _ c.in-0.rest.0.1, ne_eqb _ _ c.in-0.rest.0.0.1, ne_eqb _ _ c.in-0.rest.0.0.0.1)
+returns-in_default c = simp (ne_eqb _ _ c.in_default.in_default-own.rest.1, ne_eqb _ _ c.in_default.in_default-own.rest.0.1, ne_eqb _ _ c.in_default.in_default-own.rest.0.0.1, ne_eqb _ _ c.in_default.in_default-own.rest.0.0.0.1)

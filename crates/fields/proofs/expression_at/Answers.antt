@@ -5,10 +5,11 @@ use Rattle.format.proofs.ExprLaws.{leaf-item, count-item, expr-leaf, expr-always
 use Rattle.fields.proofs.Expressions.{no_items, no_kind, no_body, operands-as}
 use Rattle.fields.specs.declared.Operands.TheVariants.{Second}
 use Rattle.fields.specs.Decoded.{OperandsAt}
+use Rattle.fields.proofs.expression_at.Goals.{In-Second}
 use Rattle.fields.proofs.expression_at.Goals as goal
 
 -- both operands are read, whichever connective it is
-joined : (c : goal.In-Second) → let a = c.args in
+joined : (c : In-Second) → let a = c.args in
     OperandsAt a.terms.now a.at a.items (Second c.in-Second.second c.in-Second.left)
 joined c =
     let a = c.args in
@@ -69,13 +70,13 @@ returns-else-terms-at-le-COUNT_BODY c =
     rw c.count_at.ensures (expr-leaf count-item a.terms.now a.at a.items (omega arith) (omega arith) (omega arith))
 
 pub returns-in-4-kind : goal.returns-in-4-kind
-returns-in-4-kind c = (joined ((goal.at.returns-in-4-kind c).In-Second)).0 (omega arith)
+returns-in-4-kind c = (joined (goal.at.returns-in-4-kind c).In-Second).0 (omega arith)
 
 pub returns-in-5 : goal.returns-in-5
-returns-in-5 c = (joined ((goal.at.returns-in-5 c).In-Second)).1 (omega arith)
+returns-in-5 c = (joined (goal.at.returns-in-5 c).In-Second).1 (omega arith)
 
 pub returns-in_default-kind : goal.returns-in_default-kind
-returns-in_default-kind c = (joined ((goal.at.returns-in_default-kind c).In-Second)).2 (omega arith)
+returns-in_default-kind c = (joined (goal.at.returns-in_default-kind c).In-Second).2 (omega arith)
 
 pub returns-in_default : goal.returns-in_default
 returns-in_default c = let a = c.args in no_kind a.terms.now a.at a.items (λ low high. omega arith)

@@ -1,7 +1,7 @@
 -- `head_wrong` meets its contract: each answer by the tests before it. Assumes nothing.
 use Prim.Native.Nat.{◌+◌}
 use native.Mathlib.Omega.{arith}
-use borrow.Author.Tests.{eq-eqb, ne_eqb, lt-ltb, le-ltb, le-leb, lt-leb, not-true, not-false}
+use borrow.Author.Tests.{eq-eqb, ne_eqb, lt-ltb, le-ltb, le-leb, lt-leb}
 use Rattle.format.specs.Bytes.{byte_at}
 use Rattle.format.proofs.KindLaws.{head-wrong-here}
 use Rattle.fields.proofs.head_wrong.Goals as goal
@@ -32,7 +32,7 @@ returns-then-not-carries c =
       lt-leb _ _ c.if-kinds-subject.false,
       ← c.mask_of-mask.ensures,
       ← c.carries.ensures,
-      not-true c.carries.result c.if-not-carries.true,
+      c.if-not-carries.true,
     )
 
 pub returns : goal.returns
@@ -45,6 +45,6 @@ returns c =
       lt-leb _ _ c.if-kinds-subject.false,
       ← c.mask_of-mask.ensures,
       ← c.carries.ensures,
-      not-false c.carries.result c.if-not-carries.false,
+      c.if-not-carries.false,
       c.carries-2.ensures,
     )
