@@ -1,0 +1,5 @@
+-- The items fall at each call.
+use Rattle.terms.proofs.+expression_has.Given as goal
+
+abbrev pub decreases-expression_has : goal.decreases-expression_has
+decreases-expression_has l = l.items

@@ -1,0 +1,19 @@
+-- What the loops of `some_kind_wrong` keep, and what falls.
+use Prim.Native.Nat.{ℕ, ◌-◌, ◌≤◌}
+use mathlib.Core.Bool.{Bool}
+use mathlib.Core.List.{List, []}
+use lib.ListN.{length, get_or}
+use Rattle.format.specs.Grammar.{file_of}
+use Rattle.format.specs.Fields.{kind_wrong}
+use Rattle.terms.proofs.Steps.{Left}
+use Rattle.terms.proofs.some_kind_wrong.Given as goal
+
+-- refusal 3 at the item 01 with a number
+abbrev pub wrong : List ℕ → ℕ → Bool
+wrong s i = kind_wrong i (get_or (file_of s).kinds i [])
+
+abbrev pub invariant-loop-i : goal.invariant-loop-i
+invariant-loop-i l = (l.i ≤ l.kinds) × Left (wrong l.terms) (length (file_of l.terms).kinds) l.i
+
+abbrev pub decreases-loop-i : goal.decreases-loop-i
+decreases-loop-i l = l.kinds - l.i

@@ -1,0 +1,13 @@
+-- What the loops of `some_schema_has` keep, and what falls.
+use Prim.Native.Nat.{◌-◌, ◌≤◌}
+use lib.ListN.{length}
+use Rattle.format.specs.Grammar.{file_of}
+use Rattle.terms.specs.Questions.{schema_has}
+use Rattle.terms.proofs.Steps.{Left}
+use Rattle.terms.proofs.some_schema_has.Given as goal
+
+abbrev pub invariant-loop-n : goal.invariant-loop-n
+invariant-loop-n l = (l.n ≤ length (file_of l.terms).schemas) × Left (schema_has l.terms l.fault) (length (file_of l.terms).schemas) l.n
+
+abbrev pub decreases-loop-n : goal.decreases-loop-n
+decreases-loop-n l = length (file_of l.terms).schemas - l.n
