@@ -1,0 +1,534 @@
+-- The functions of the cycle meet their contracts, their calls within the cycle being smaller. Assumes nothing.
+use Prim.Native.Nat.{ℕ, ◌+◌, ◌*◌, ◌≤◌, ◌<◌, ◌-◌}
+use native.Mathlib.Omega.{arith}
+use mathlib.Core.Path.{◌≡◌, refl, sym, ◌∙◌}
+use borrow.Author.Rules.{rules}
+use Rattle.format.specs.Grammar.{expr_limit, file_of}
+use Rattle.times.specs.declared.Needed.{Needed}
+use Rattle.times.specs.NeededTimes.{needed_of, detach_needs, consequent_needs}
+use Rattle.index.specs.Chains.{Ready, index_limit}
+use Rattle.evaluate.specs.Seen.{Posed}
+use Rattle.evaluate.proofs.Expressions.{occurs-times, fails-times, expression-as, leaf-times, count-as, and-times, or-times, except-times, always-times, nothing-times, stage-here}
+use Rattle.table.proofs.TableLaws.{schemas-few}
+use Rattle.evaluate.proofs.Leaves.{count-no-lower, count-no-upper, count-more, count-few, first-here, plain_known, open-known, event-never, plus-known, minus-known, fails-no-upper, fails-unreached, fails-empty, fails-no-lower, fails_met, fails-missed, occurs-no-lower, occurs-no-upper, occurs}
+use Rattle.meaning.specs.Meaning.{and_of, or_of, except_of}
+use Rattle.fields.specs.declared.Expression.{Expression}
+use Rattle.fields.specs.Decoded.{ExpressionAt}
+use mathlib.Core.Logic.{inl, inr}
+use lib.ListN.{length, drop}
+use Rattle.format.specs.Fields.{terms_of}
+use Rattle.table.specs.Table.{table_length, starts_from}
+use Rattle.records.specs.Holds.{Stands}
+use Rattle.index.proofs.Walks.{Next, walk_start, walk_end, walk-next, marked-kind}
+use Rattle.index.proofs.Found.{found-stand, all-next}
+use Rattle.evaluate.proofs.Scan.{scan-none, scan-start, scan-take, scan-skip, scan-end}
+use Rattle.meaning.proofs.Equation.{rank-least}
+use Rattle.records.proofs.Steps.{stands-stamped}
+use Rattle.evaluate.proofs.Happens.{happens-not, happens-kind, happens-above, happens-stage}
+use Rattle.meaning.specs.declared.Stage.{Stage}
+use Rattle.meaning.specs.declared.Stage.TheVariants.{Created, Detached, Expired, Discharged, Violated}
+use Rattle.meaning.specs.declared.NormType.{NormType}
+use Rattle.meaning.specs.Terms.{rank}
+use Rattle.times.specs.declared.Needed.TheVariants.{Neither, Occurrence, Failure, Both}
+use Rattle.evaluate.proofs.+stage_times.Invariants.{weight}
+use Rattle.evaluate.proofs.+stage_times.Goals.{clause_times-After-start_in-at, failure-After-expression_at, first_within-In-loop-at, first_within-then-is_marked, first_within-else-is_marked, occurrence-After-expression_at, stage_time-Start}
+use Rattle.evaluate.proofs.+stage_times.Goals as goal
+
+-- clause_times
+
+-- an expression of the clause may be asked for, where it is told which time is needed: it weighs less
+clause_times-asks : (t : ℕ) (c : clause_times-After-start_in-at t) (p : Needed) → let a = c.args in a.needed ≡ p
+    → a.clause.rank * 512 + 257 < weight p a.clause.rank → (a.clause.rank * 512 + 31 * 8 + 9 < t)
+    × (Ready a.terms.now a.log.now a.table.now × (Posed a.terms.now a.log.now a.clause × (31 ≤ expr_limit)))
+unfolding expr_limit
+clause_times-asks t c p e h =
+    let same : weight p c.args.clause.rank ≡ t = rw (← e) c.decreases in
+    (omega (arith, same), (c.requires.ready, (c.requires.posed, omega arith)))
+
+pub clause_times-start_in-at-requires : goal.clause_times-start_in-at-requires
+clause_times-start_in-at-requires t c = record { table_len = c.requires.ready.read.0.long; rank_lt_ranks = omega (arith, schemas-few c.args.terms.now refl, c.requires.posed.ranked) }
+
+pub clause_times-occurrence-requires : goal.clause_times-occurrence-requires
+unfolding weight
+clause_times-occurrence-requires t c = clause_times-asks t (goal.at.clause_times-occurrence-requires t c).After-start_in-at _ c.in-Occurrence.is (omega arith)
+
+pub clause_times-failure-requires : goal.clause_times-failure-requires
+unfolding weight
+clause_times-failure-requires t c = clause_times-asks t (goal.at.clause_times-failure-requires t c).After-start_in-at _ c.in-Failure.is (omega arith)
+
+pub clause_times-occurrence-requires-in-Both : goal.clause_times-occurrence-requires-in-Both
+unfolding weight
+clause_times-occurrence-requires-in-Both t c = clause_times-asks t (goal.at.clause_times-occurrence-requires-in-Both t c).After-start_in-at _ c.in-Both.is (omega arith)
+
+pub clause_times-failure-requires-in-Never : goal.clause_times-failure-requires-in-Never
+unfolding weight
+clause_times-failure-requires-in-Never t c = clause_times-asks t (goal.at.clause_times-failure-requires-in-Never t c).After-start_in-at _ c.in-Both.is (omega arith)
+
+pub clause_times-returns-in-Neither : goal.clause_times-returns-in-Neither
+unfolding needed_of
+clause_times-returns-in-Neither t c = rw c.in-Neither.is
+
+pub clause_times-returns-in-Occurrence : goal.clause_times-returns-in-Occurrence
+unfolding needed_of expr_limit
+clause_times-returns-in-Occurrence t c = rw (c.in-Occurrence.is, c.occurrence.ensures, c.start_in-at.ensures)
+
+pub clause_times-returns-in-Failure : goal.clause_times-returns-in-Failure
+unfolding needed_of expr_limit
+clause_times-returns-in-Failure t c = rw (c.in-Failure.is, c.failure.ensures, c.start_in-at.ensures)
+
+pub clause_times-returns-in-At : goal.clause_times-returns-in-At
+unfolding needed_of expr_limit
+clause_times-returns-in-At t c =
+    let start = c.start_in-at.ensures in
+    rw c.in-Both.is (occurs-times _ _ _ _ _ (rw start at (sym c.occurrence-in-Both.ensures ∙ c.in-At.is)))
+
+pub clause_times-returns-in-Never : goal.clause_times-returns-in-Never
+unfolding needed_of expr_limit
+clause_times-returns-in-Never t c =
+    let start = c.start_in-at.ensures in
+    rw c.in-Both.is (fails-times _ _ _ _ _ (rw start at (sym c.occurrence-in-Both.ensures ∙ c.in-Never.is)) (rw start at c.failure-in-Never.ensures))
+
+-- count_times
+
+pub count_times-returns-in_default : goal.count_times-returns-in_default
+count_times-returns-in_default t c = search (count-no-lower, rules)
+
+pub count_times-returns-in_default-known_bound : goal.count_times-returns-in_default-known_bound
+count_times-returns-in_default-known_bound t c = search (count-no-upper, rules)
+
+pub count_times-count_within-number-requires : goal.count_times-count_within-number-requires
+count_times-count_within-number-requires t c = record { ready = c.requires.ready; stands = c.requires.posed.stands }
+
+pub count_times-returns-then-count-number : goal.count_times-returns-then-count-number
+count_times-returns-then-count-number t c =
+    count-more _ _ _ _ _ c.known_bound.ensures c.in-Known.is c.known_bound-2.ensures c.in-Known-known_bound.is
+    c.reached.ensures c.later_of.ensures c.later_of-settled.ensures c.count_within-number.ensures c.if-count-number.true
+
+pub count_times-returns : goal.count_times-returns
+count_times-returns t c =
+    count-few _ _ _ _ _ c.known_bound.ensures c.in-Known.is c.known_bound-2.ensures c.in-Known-known_bound.is
+    c.reached.ensures c.later_of.ensures c.later_of-settled.ensures c.count_within-number.ensures c.if-count-number.false
+
+-- failure
+
+-- what is failure-read at the place, as it is told
+failure-read : (t : ℕ) (c : failure-After-expression_at t) (x : Expression) → c.expression_at.result ≡ x
+    → let a = c.args in ExpressionAt a.terms.now a.at a.items x
+failure-read t c x e = let a = c.args in expression-as a.terms.now a.at a.items c.expression_at.ensures x e
+
+-- an operand may be asked for: it has fewer items
+failure-operand : (t : ℕ) (c : failure-After-expression_at t) (n : ℕ) → let a = c.args in n < a.items
+    → (a.clause.rank * 512 + n * 8 + 9 < t)
+    × (Ready a.terms.now a.log.now a.table.now × (Posed a.terms.now a.log.now a.clause × (n ≤ expr_limit)))
+failure-operand t c n h = let p = c.requires in (omega arith, (p.ready, (p.posed, omega arith)))
+
+pub failure-overflow_add-at : goal.failure-overflow_add-at
+failure-overflow_add-at t c = omega (arith, failure-read t (goal.at.failure-overflow_add-at t c).After-expression_at _ c.in-And.is)
+
+pub failure-overflow_sub-items : goal.failure-overflow_sub-items
+failure-overflow_sub-items t c = omega (arith, failure-read t (goal.at.failure-overflow_sub-items t c).After-expression_at _ c.in-And.is)
+
+pub failure-failure-a-requires : goal.failure-failure-a-requires
+failure-failure-a-requires t c = failure-operand t (goal.at.failure-failure-a-requires t c).After-expression_at (c.args.items - 1) (omega (arith, failure-read t (goal.at.failure-failure-a-requires t c).After-expression_at _ c.in-And.is))
+
+pub failure-failure-b-requires : goal.failure-failure-b-requires
+failure-failure-b-requires t c = failure-operand t (goal.at.failure-failure-b-requires t c).After-expression_at c.in-And.left (omega (arith, failure-read t (goal.at.failure-failure-b-requires t c).After-expression_at _ c.in-And.is))
+
+pub failure-overflow_add-at-in-Or : goal.failure-overflow_add-at-in-Or
+failure-overflow_add-at-in-Or t c = omega (arith, failure-read t (goal.at.failure-overflow_add-at-in-Or t c).After-expression_at _ c.in-Or.is)
+
+pub failure-overflow_sub-items-in-Or : goal.failure-overflow_sub-items-in-Or
+failure-overflow_sub-items-in-Or t c = omega (arith, failure-read t (goal.at.failure-overflow_sub-items-in-Or t c).After-expression_at _ c.in-Or.is)
+
+pub failure-failure-a-requires-in-Or : goal.failure-failure-a-requires-in-Or
+failure-failure-a-requires-in-Or t c = failure-operand t (goal.at.failure-failure-a-requires-in-Or t c).After-expression_at (c.args.items - 1) (omega (arith, failure-read t (goal.at.failure-failure-a-requires-in-Or t c).After-expression_at _ c.in-Or.is))
+
+pub failure-failure-b-requires-in-Or : goal.failure-failure-b-requires-in-Or
+failure-failure-b-requires-in-Or t c = failure-operand t (goal.at.failure-failure-b-requires-in-Or t c).After-expression_at c.in-Or.left (omega (arith, failure-read t (goal.at.failure-failure-b-requires-in-Or t c).After-expression_at _ c.in-Or.is))
+
+pub failure-overflow_add-at-in-Except : goal.failure-overflow_add-at-in-Except
+failure-overflow_add-at-in-Except t c = omega (arith, failure-read t (goal.at.failure-overflow_add-at-in-Except t c).After-expression_at _ c.in-Except.is)
+
+pub failure-overflow_sub-items-in-Except : goal.failure-overflow_sub-items-in-Except
+failure-overflow_sub-items-in-Except t c = omega (arith, failure-read t (goal.at.failure-overflow_sub-items-in-Except t c).After-expression_at _ c.in-Except.is)
+
+pub failure-failure-a-requires-in-Except : goal.failure-failure-a-requires-in-Except
+failure-failure-a-requires-in-Except t c = failure-operand t (goal.at.failure-failure-a-requires-in-Except t c).After-expression_at (c.args.items - 1) (omega (arith, failure-read t (goal.at.failure-failure-a-requires-in-Except t c).After-expression_at _ c.in-Except.is))
+
+pub failure-occurrence-b-requires : goal.failure-occurrence-b-requires
+failure-occurrence-b-requires t c = failure-operand t (goal.at.failure-occurrence-b-requires t c).After-expression_at c.in-Except.left (omega (arith, failure-read t (goal.at.failure-occurrence-b-requires t c).After-expression_at _ c.in-Except.is))
+
+pub failure-returns-in-Happens : goal.failure-returns-in-Happens
+failure-returns-in-Happens t c =
+    let a = c.args in
+    rw (leaf-times a.terms.now a.log.now a.clause.rank a.clause.subject (failure-read t (goal.at.failure-returns-in-Happens t c).After-expression_at _ c.in-Leaf.is) c.in-Happens.is) c.leaf_failure.ensures
+
+pub failure-returns-in-Counts : goal.failure-returns-in-Counts
+failure-returns-in-Counts t c =
+    let a = c.args in
+    rw (count-as a.terms.now a.log.now a.clause.rank a.clause.subject (failure-read t (goal.at.failure-returns-in-Counts t c).After-expression_at _ c.in-Leaf.is) c.in-Counts.is, c.count_times.ensures)
+
+pub failure-returns-in-And : goal.failure-returns-in-And
+unfolding and_of
+failure-returns-in-And t c =
+    let a = c.args in
+    let j = failure-read t (goal.at.failure-returns-in-And t c).After-expression_at _ c.in-And.is in
+    rw (and-times a.terms.now a.log.now a.clause.rank a.clause.subject j.0, c.earlier_of.ensures, c.failure-a.ensures, c.failure-b.ensures)
+
+pub failure-returns-in-Or : goal.failure-returns-in-Or
+unfolding or_of
+failure-returns-in-Or t c =
+    let a = c.args in
+    let j = failure-read t (goal.at.failure-returns-in-Or t c).After-expression_at _ c.in-Or.is in
+    rw (or-times a.terms.now a.log.now a.clause.rank a.clause.subject j.0, c.later_of.ensures, c.failure-a-in-Or.ensures, c.failure-b-in-Or.ensures)
+
+pub failure-returns-in-Except : goal.failure-returns-in-Except
+unfolding except_of
+failure-returns-in-Except t c =
+    let a = c.args in
+    let j = failure-read t (goal.at.failure-returns-in-Except t c).After-expression_at _ c.in-Except.is in
+    rw (except-times a.terms.now a.log.now a.clause.rank a.clause.subject j.0, c.earlier_of-in-Except.ensures, c.failure-a-in-Except.ensures, c.occurrence-b.ensures)
+
+pub failure-returns-in-Always : goal.failure-returns-in-Always
+failure-returns-in-Always t c =
+    let a = c.args in
+    rw (always-times a.terms.now a.log.now a.clause.rank a.clause.subject (failure-read t (goal.at.failure-returns-in-Always t c).After-expression_at _ c.in-Always.is))
+
+pub failure-returns-in-Nothing : goal.failure-returns-in-Nothing
+failure-returns-in-Nothing t c =
+    let a = c.args in
+    rw (nothing-times a.terms.now a.log.now a.clause.rank a.clause.subject (failure-read t (goal.at.failure-returns-in-Nothing t c).After-expression_at _ c.in-Nothing.is))
+
+-- first
+
+pub first-returns : goal.first-returns
+first-returns t c = search (first-here, rules)
+
+-- first_within
+
+-- what a turn knows of its word
+first_within-here : (t : ℕ) (c : first_within-In-loop-at t) → let a = c.args in
+    Next a.log.now a.table.now c.mark_of-mark.result c.loop-at.at c.loop-at.invariant.0
+first_within-here t c = walk-next _ _ _ c.loop-at.invariant.1 c.loop-at-test.true
+
+-- the word has a first_within-slot
+first_within-slot : (t : ℕ) (c : first_within-In-loop-at t) → let a = c.args in
+    (c.loop-at.at < index_limit) × (length a.table.now ≡ table_length)
+first_within-slot t c =
+    let i = c.requires.ready.indexed in
+    (omega (arith, (first_within-here t c).inside, i.short), i.long)
+
+pub first_within-kind_of-kind-requires : goal.first_within-kind_of-kind-requires
+first_within-kind_of-kind-requires t c = c.requires.ready.read
+
+pub first_within-kind_count-requires : goal.first_within-kind_count-requires
+first_within-kind_count-requires t c = c.requires.ready.read.0.long
+
+pub first_within-returns-then-kind_count-kind : goal.first_within-returns-then-kind_count-kind
+first_within-returns-then-kind_count-kind t c =
+    let a = c.args in
+    scan-none a.terms.now a.log.now a.clause.rank a.clause.subject a.window.lower a.window.upper a.event c.kind_of-kind.ensures
+    (omega (arith, c.requires.ready.read.0.count, c.kind_count.ensures.0))
+
+pub first_within-mark_of-mark-requires : goal.first_within-mark_of-mark-requires
+first_within-mark_of-mark-requires t c = record { kinds = c.requires.ready.read.0; stands = c.requires.posed.stands; kind_in_bounds = omega (arith, c.requires.ready.read.0.count, c.kind_count.ensures.0) }
+
+pub first_within-first_word-at-requires : goal.first_within-first_word-at-requires
+first_within-first_word-at-requires t c = record { word_lt_number_limit = c.mark_of-mark.ensures.word_low; table_len = c.requires.ready.indexed.long }
+
+pub first_within-loop-at-init : goal.first_within-loop-at-init
+first_within-loop-at-init t c =
+    (
+      _,
+      walk_start _ _ _ _ c.requires.ready.indexed c.first_word-at.ensures,
+      found-stand _ _ _,
+      scan-start _ _ _ _ _ _ _ c.kind_of-kind.ensures c.mark_of-mark.ensures,
+    )
+
+pub first_within-is_marked-requires : goal.first_within-is_marked-requires
+first_within-is_marked-requires t c =
+    let n = first_within-here t c in
+    let i = c.requires.ready.indexed in record { at_bound = n.owner; slot_width_in_bounds = n.inside; log_len_bound = i.short; table_len = i.long; word_lt_number_limit = c.mark_of-mark.ensures.word_low }
+
+pub first_within-owner_of-requires : goal.first_within-owner_of-requires
+first_within-owner_of-requires t c = record { at_lt_index_limit = (first_within-slot t (goal.at.first_within-owner_of-requires t c).In-loop-at).0; table_len = (first_within-slot t (goal.at.first_within-owner_of-requires t c).In-loop-at).1 }
+
+pub first_within-happening-time-requires : goal.first_within-happening-time-requires
+first_within-happening-time-requires t c =
+    let is = sym c.is_marked.ensures ∙ c.if-is_marked.true in
+    let kind = marked-kind _ _ _ _ is ∙ (c.mark_of-mark.ensures.kind_is ∙ c.kind_of-kind.ensures) in
+    let stands = (all-next (Stands (terms_of c.args.terms.now) c.args.log.now) _ _ _ (first_within-here t (goal.at.first_within-happening-time-requires t c).In-loop-at).left_is c.loop-at.invariant.2).0 is in
+    (omega arith, (c.requires.ready, (c.requires.posed, rw c.owner_of.ensures (stands, kind))))
+
+pub first_within-next_of-at-requires : goal.first_within-next_of-at-requires
+first_within-next_of-at-requires t c = record { at_lt_index_limit = (first_within-slot t (goal.at.first_within-next_of-at-requires t c).In-loop-at).0; table_len = (first_within-slot t (goal.at.first_within-next_of-at-requires t c).In-loop-at).1 }
+
+pub first_within-loop-at-smaller : goal.first_within-loop-at-smaller
+first_within-loop-at-smaller t c = omega (arith, c.next_of-at.ensures, (first_within-here t (goal.at.first_within-loop-at-smaller t c).In-loop-at).falls)
+
+pub first_within-loop-at-preserved : goal.first_within-loop-at-preserved
+first_within-loop-at-preserved t c =
+    let n = first_within-here t (goal.at.first_within-loop-at-preserved t c).In-loop-at in (
+      n.rest,
+      rw c.next_of-at.ensures n.onward,
+      (all-next _ _ _ _ n.left_is c.loop-at.invariant.2).1,
+      elim c.if-is_marked.branch [
+        | first_within-then-is_marked w ↦
+            scan-take _ _ _ _ _ _ _ c.loop-at.first _ _ _ n.left_is c.loop-at.invariant.3 (sym c.is_marked.ensures ∙ w.if-is_marked.true) (rw w.owner_of.ensures at w.happening-time.ensures) w.within.ensures (w.first-is ∙ w.earlier_of-first.ensures)
+        | first_within-else-is_marked w ↦ rw w.first-is (scan-skip _ _ _ _ _ _ _ c.loop-at.first _ _ _ n.left_is c.loop-at.invariant.3 (sym c.is_marked.ensures ∙ w.if-is_marked.false))
+      ],
+    )
+
+pub first_within-returns : goal.first_within-returns
+first_within-returns t c = let i = c.loop-at.invariant in scan-end _ _ _ _ _ _ _ (walk_end _ _ _ i.1 c.loop-at-test.false) i.3
+
+-- happening
+
+pub happening-correlates-requires : goal.happening-correlates-requires
+happening-correlates-requires t c = record { kinds = c.requires.ready.read.0; stands = c.requires.posed.stands; stands_2 = c.requires.stands }
+
+pub happening-returns-then-not-correlates : goal.happening-returns-then-not-correlates
+happening-returns-then-not-correlates t c =
+    happens-not _ _ _ _ _ _ c.requires.at_value c.correlates.ensures c.if-not-correlates.true
+
+pub happening-stamp_at-requires : goal.happening-stamp_at-requires
+happening-stamp_at-requires t c = stands-stamped _ c.args.log.now c.args.at c.requires.stands
+
+pub happening-returns-then-clause-rank : goal.happening-returns-then-clause-rank
+happening-returns-then-clause-rank t c =
+    happens-above _ _ _ _ _ _ c.requires.at_value c.correlates.ensures c.if-not-correlates.false c.in-StageOf.is (omega arith)
+
+pub happening-stage_time-requires : goal.happening-stage_time-requires
+happening-stage_time-requires t c =
+    (omega arith, (c.requires.ready, (omega (arith, rank-least c.in-StageOf.stage c.in-StageOf.schema, c.requires.posed.ranked), c.requires.stands)))
+
+pub happening-returns-in-Kind : goal.happening-returns-in-Kind
+happening-returns-in-Kind t c =
+    happens-kind _ _ _ _ _ _ c.requires.at_value c.correlates.ensures c.if-not-correlates.false c.in-Kind.is (c.stamp_at.ensures _)
+
+pub happening-returns-else-clause-rank : goal.happening-returns-else-clause-rank
+happening-returns-else-clause-rank t c =
+    happens-stage _ _ _ _ _ _ c.requires.at_value c.correlates.ensures c.if-not-correlates.false
+    c.in-StageOf.is (omega arith) c.stage_time.ensures
+
+-- known_bound
+
+pub known_bound-returns-in_default : goal.known_bound-returns-in_default
+known_bound-returns-in_default t c = event-never _ _ _ _ _ _ _ c.first.ensures (inl c.in-Plus.is) c.in_default.is
+
+pub known_bound-returns-in_default-first : goal.known_bound-returns-in_default-first
+known_bound-returns-in_default-first t c = event-never _ _ _ _ _ _ _ c.first-in-Minus.ensures (inr c.in-Minus.is) c.in_default-first.is
+
+pub known_bound-returns-in-Plain : goal.known_bound-returns-in-Plain
+known_bound-returns-in-Plain t c = search (plain_known, rules)
+
+pub known_bound-returns-in-At : goal.known_bound-returns-in-At
+known_bound-returns-in-At t c = search (plus-known, rules)
+
+pub known_bound-returns-in-At-first : goal.known_bound-returns-in-At-first
+known_bound-returns-in-At-first t c = search (minus-known, rules)
+
+pub known_bound-returns-in-Open : goal.known_bound-returns-in-Open
+known_bound-returns-in-Open t c = search (open-known, rules)
+
+-- leaf_failure
+
+pub leaf_failure-returns-in_default : goal.leaf_failure-returns-in_default
+leaf_failure-returns-in_default t c = search (fails-no-upper, rules)
+
+pub leaf_failure-returns-in_default-reached : goal.leaf_failure-returns-in_default-reached
+leaf_failure-returns-in_default-reached t c = search (fails-unreached, rules)
+
+-- nothing is before the upper bound
+pub leaf_failure-returns-in_default-first_within : goal.leaf_failure-returns-in_default-first_within
+leaf_failure-returns-in_default-first_within t c =
+    fails-empty _ _ _ _ _ c.known_bound.ensures c.in-Known.is c.reached.ensures c.in-At.is
+    c.first_within.ensures c.in_default-first_within.is c.later_of.ensures
+
+pub leaf_failure-returns-in_default-known_bound : goal.leaf_failure-returns-in_default-known_bound
+leaf_failure-returns-in_default-known_bound t c = search (fails-no-lower, rules)
+
+pub leaf_failure-first_within-requires-2 : goal.leaf_failure-first_within-requires-2
+leaf_failure-first_within-requires-2 t c = (omega arith, (c.requires.ready, c.requires.posed))
+
+-- something is in the window
+pub leaf_failure-returns-in-At-first_within-2 : goal.leaf_failure-returns-in-At-first_within-2
+leaf_failure-returns-in-At-first_within-2 t c =
+    fails_met _ _ _ _ _ c.known_bound.ensures c.in-Known.is c.reached.ensures c.in-At.is
+    c.first_within.ensures c.in-At-first_within.is c.known_bound-2.ensures c.in-Known-known_bound.is
+    c.first_within-2.ensures c.in-At-first_within-2.is
+
+-- something is before the upper bound, nothing in the window
+pub leaf_failure-returns-in-Never : goal.leaf_failure-returns-in-Never
+leaf_failure-returns-in-Never t c =
+    fails-missed _ _ _ _ _ c.known_bound.ensures c.in-Known.is c.reached.ensures c.in-At.is
+    c.first_within.ensures c.in-At-first_within.is c.known_bound-2.ensures c.in-Known-known_bound.is
+    c.first_within-2.ensures c.in-Never.is c.later_of-in-Never.ensures c.later_of-in-Never-2.ensures
+
+-- leaf_occurrence
+
+pub leaf_occurrence-returns-in_default : goal.leaf_occurrence-returns-in_default
+leaf_occurrence-returns-in_default t c = search (occurs-no-lower, rules)
+
+pub leaf_occurrence-returns-in_default-known_bound : goal.leaf_occurrence-returns-in_default-known_bound
+leaf_occurrence-returns-in_default-known_bound t c = search (occurs-no-upper, rules)
+
+-- both bounds are known
+pub leaf_occurrence-returns : goal.leaf_occurrence-returns
+leaf_occurrence-returns t c =
+    occurs _ _ _ _ _ c.known_bound.ensures c.in-Known.is c.known_bound-2.ensures c.in-Known-known_bound.is
+    c.first_within-first.ensures c.later_of.ensures c.later_of-2.ensures
+
+-- occurrence
+
+-- what is occurrence-read at the place, as it is told
+occurrence-read : (t : ℕ) (c : occurrence-After-expression_at t) (x : Expression) → c.expression_at.result ≡ x
+    → let a = c.args in ExpressionAt a.terms.now a.at a.items x
+occurrence-read t c x e = let a = c.args in expression-as a.terms.now a.at a.items c.expression_at.ensures x e
+
+-- an operand may be asked for: it has fewer items
+occurrence-operand : (t : ℕ) (c : occurrence-After-expression_at t) (n : ℕ) → let a = c.args in n < a.items
+    → (a.clause.rank * 512 + n * 8 + 9 < t)
+    × (Ready a.terms.now a.log.now a.table.now × (Posed a.terms.now a.log.now a.clause × (n ≤ expr_limit)))
+occurrence-operand t c n h = let p = c.requires in (omega arith, (p.ready, (p.posed, omega arith)))
+
+pub occurrence-overflow_add-at : goal.occurrence-overflow_add-at
+occurrence-overflow_add-at t c = omega (arith, occurrence-read t (goal.at.occurrence-overflow_add-at t c).After-expression_at _ c.in-And.is)
+
+pub occurrence-overflow_sub-items : goal.occurrence-overflow_sub-items
+occurrence-overflow_sub-items t c = omega (arith, occurrence-read t (goal.at.occurrence-overflow_sub-items t c).After-expression_at _ c.in-And.is)
+
+pub occurrence-occurrence-a-requires : goal.occurrence-occurrence-a-requires
+occurrence-occurrence-a-requires t c = occurrence-operand t (goal.at.occurrence-occurrence-a-requires t c).After-expression_at (c.args.items - 1) (omega (arith, occurrence-read t (goal.at.occurrence-occurrence-a-requires t c).After-expression_at _ c.in-And.is))
+
+pub occurrence-occurrence-b-requires : goal.occurrence-occurrence-b-requires
+occurrence-occurrence-b-requires t c = occurrence-operand t (goal.at.occurrence-occurrence-b-requires t c).After-expression_at c.in-And.left (omega (arith, occurrence-read t (goal.at.occurrence-occurrence-b-requires t c).After-expression_at _ c.in-And.is))
+
+pub occurrence-overflow_add-at-in-Or : goal.occurrence-overflow_add-at-in-Or
+occurrence-overflow_add-at-in-Or t c = omega (arith, occurrence-read t (goal.at.occurrence-overflow_add-at-in-Or t c).After-expression_at _ c.in-Or.is)
+
+pub occurrence-overflow_sub-items-in-Or : goal.occurrence-overflow_sub-items-in-Or
+occurrence-overflow_sub-items-in-Or t c = omega (arith, occurrence-read t (goal.at.occurrence-overflow_sub-items-in-Or t c).After-expression_at _ c.in-Or.is)
+
+pub occurrence-occurrence-a-requires-in-Or : goal.occurrence-occurrence-a-requires-in-Or
+occurrence-occurrence-a-requires-in-Or t c = occurrence-operand t (goal.at.occurrence-occurrence-a-requires-in-Or t c).After-expression_at (c.args.items - 1) (omega (arith, occurrence-read t (goal.at.occurrence-occurrence-a-requires-in-Or t c).After-expression_at _ c.in-Or.is))
+
+pub occurrence-occurrence-b-requires-in-Or : goal.occurrence-occurrence-b-requires-in-Or
+occurrence-occurrence-b-requires-in-Or t c = occurrence-operand t (goal.at.occurrence-occurrence-b-requires-in-Or t c).After-expression_at c.in-Or.left (omega (arith, occurrence-read t (goal.at.occurrence-occurrence-b-requires-in-Or t c).After-expression_at _ c.in-Or.is))
+
+pub occurrence-overflow_add-at-in-Except : goal.occurrence-overflow_add-at-in-Except
+occurrence-overflow_add-at-in-Except t c = omega (arith, occurrence-read t (goal.at.occurrence-overflow_add-at-in-Except t c).After-expression_at _ c.in-Except.is)
+
+pub occurrence-overflow_sub-items-in-Except : goal.occurrence-overflow_sub-items-in-Except
+occurrence-overflow_sub-items-in-Except t c = omega (arith, occurrence-read t (goal.at.occurrence-overflow_sub-items-in-Except t c).After-expression_at _ c.in-Except.is)
+
+pub occurrence-occurrence-a-requires-in-Except : goal.occurrence-occurrence-a-requires-in-Except
+occurrence-occurrence-a-requires-in-Except t c = occurrence-operand t (goal.at.occurrence-occurrence-a-requires-in-Except t c).After-expression_at (c.args.items - 1) (omega (arith, occurrence-read t (goal.at.occurrence-occurrence-a-requires-in-Except t c).After-expression_at _ c.in-Except.is))
+
+pub occurrence-failure-b-requires : goal.occurrence-failure-b-requires
+occurrence-failure-b-requires t c = occurrence-operand t (goal.at.occurrence-failure-b-requires t c).After-expression_at c.in-Except.left (omega (arith, occurrence-read t (goal.at.occurrence-failure-b-requires t c).After-expression_at _ c.in-Except.is))
+
+pub occurrence-returns-in-Happens : goal.occurrence-returns-in-Happens
+occurrence-returns-in-Happens t c =
+    let a = c.args in
+    rw (leaf-times a.terms.now a.log.now a.clause.rank a.clause.subject (occurrence-read t (goal.at.occurrence-returns-in-Happens t c).After-expression_at _ c.in-Leaf.is) c.in-Happens.is) c.leaf_occurrence.ensures
+
+pub occurrence-returns-in-Counts : goal.occurrence-returns-in-Counts
+occurrence-returns-in-Counts t c =
+    let a = c.args in
+    rw (count-as a.terms.now a.log.now a.clause.rank a.clause.subject (occurrence-read t (goal.at.occurrence-returns-in-Counts t c).After-expression_at _ c.in-Leaf.is) c.in-Counts.is, c.count_times.ensures)
+
+pub occurrence-returns-in-And : goal.occurrence-returns-in-And
+unfolding and_of
+occurrence-returns-in-And t c =
+    let a = c.args in
+    let j = occurrence-read t (goal.at.occurrence-returns-in-And t c).After-expression_at _ c.in-And.is in
+    rw (and-times a.terms.now a.log.now a.clause.rank a.clause.subject j.0, c.later_of.ensures, c.occurrence-a.ensures, c.occurrence-b.ensures)
+
+pub occurrence-returns-in-Or : goal.occurrence-returns-in-Or
+unfolding or_of
+occurrence-returns-in-Or t c =
+    let a = c.args in
+    let j = occurrence-read t (goal.at.occurrence-returns-in-Or t c).After-expression_at _ c.in-Or.is in
+    rw (or-times a.terms.now a.log.now a.clause.rank a.clause.subject j.0, c.earlier_of.ensures, c.occurrence-a-in-Or.ensures, c.occurrence-b-in-Or.ensures)
+
+pub occurrence-returns-in-Except : goal.occurrence-returns-in-Except
+unfolding except_of
+occurrence-returns-in-Except t c =
+    let a = c.args in
+    let j = occurrence-read t (goal.at.occurrence-returns-in-Except t c).After-expression_at _ c.in-Except.is in
+    rw (except-times a.terms.now a.log.now a.clause.rank a.clause.subject j.0, c.later_of-in-Except.ensures, c.occurrence-a-in-Except.ensures, c.failure-b.ensures)
+
+pub occurrence-returns-in-Always : goal.occurrence-returns-in-Always
+occurrence-returns-in-Always t c =
+    let a = c.args in
+    rw (always-times a.terms.now a.log.now a.clause.rank a.clause.subject (occurrence-read t (goal.at.occurrence-returns-in-Always t c).After-expression_at _ c.in-Always.is))
+
+pub occurrence-returns-in-Nothing : goal.occurrence-returns-in-Nothing
+occurrence-returns-in-Nothing t c =
+    let a = c.args in
+    rw (nothing-times a.terms.now a.log.now a.clause.rank a.clause.subject (occurrence-read t (goal.at.occurrence-returns-in-Nothing t c).After-expression_at _ c.in-Nothing.is))
+
+-- stage_time
+
+-- the most that a clause of rank k weighs
+stage_time-weight-most : (p : Needed) (k : ℕ) → weight p k ≤ k * 512 + 300
+unfolding weight
+stage_time-weight-most Neither k = omega arith
+stage_time-weight-most Occurrence k = omega arith
+stage_time-weight-most Failure k = omega arith
+stage_time-weight-most Both k = omega arith
+
+-- the clause c weighs less than the stage
+stage_time-create-below : (s : Stage) (j : ℕ) → weight Occurrence (3 * j) < rank s j * 512 + 511
+unfolding weight rank
+stage_time-create-below Created j = omega arith
+stage_time-create-below Detached j = omega arith
+stage_time-create-below Expired j = omega arith
+stage_time-create-below Discharged j = omega arith
+stage_time-create-below Violated j = omega arith
+
+-- so does what is needed of the clause r
+stage_time-detach-below : (s : Stage) (j : ℕ) → weight (detach_needs s) (3 * j + 1) < rank s j * 512 + 511
+unfolding weight rank
+stage_time-detach-below Created j = omega arith
+stage_time-detach-below Detached j = omega arith
+stage_time-detach-below Expired j = omega arith
+stage_time-detach-below Discharged j = omega arith
+stage_time-detach-below Violated j = omega arith
+
+-- and of the clause u
+stage_time-consequent-below : (s : Stage) (norm : NormType) (j : ℕ) → weight (consequent_needs s norm) (3 * j + 2) < rank s j * 512 + 511
+unfolding weight rank
+stage_time-consequent-below Created norm j = omega arith
+stage_time-consequent-below Detached norm j = omega arith
+stage_time-consequent-below Expired norm j = omega arith
+stage_time-consequent-below Discharged norm j = omega (arith, stage_time-weight-most (consequent_needs Discharged norm) (3 * j + 2))
+stage_time-consequent-below Violated norm j = omega (arith, stage_time-weight-most (consequent_needs Violated norm) (3 * j + 2))
+
+-- a clause of the schema may be asked for
+stage_time-posed : (t : ℕ) (a : stage_time-Start t) (rank : ℕ) → let x = a.args in rank < 3 * length (file_of x.terms.now).schemas
+    → Ready x.terms.now x.log.now x.table.now × Posed x.terms.now x.log.now (record { subject = x.subject; rank = rank })
+stage_time-posed t a rank h = (a.requires.ready, record { ranked = h; stands = a.requires.stands })
+
+pub stage_time-clause_times-c-requires : goal.stage_time-clause_times-c-requires
+stage_time-clause_times-c-requires t c =
+    (omega (arith, stage_time-create-below c.args.stage c.args.schema), stage_time-posed t (goal.at.stage_time-clause_times-c-requires t c).Start (3 * c.args.schema) (omega (arith, c.requires.schema_in_bounds)))
+
+pub stage_time-clause_times-r-requires : goal.stage_time-clause_times-r-requires
+stage_time-clause_times-r-requires t c =
+    (rw c.detach_needs-needed.ensures (omega (arith, stage_time-detach-below c.args.stage c.args.schema)), stage_time-posed t (goal.at.stage_time-clause_times-r-requires t c).Start (3 * c.args.schema + 1) (omega (arith, c.requires.schema_in_bounds)))
+
+pub stage_time-clause_times-u-requires : goal.stage_time-clause_times-u-requires
+stage_time-clause_times-u-requires t c =
+    let below = stage_time-consequent-below c.args.stage c.norm_type-norm.result c.args.schema in
+    (rw c.consequent_needs-needed_last.ensures (omega (arith, below)), stage_time-posed t (goal.at.stage_time-clause_times-u-requires t c).Start (3 * c.args.schema + 2) (omega (arith, c.requires.schema_in_bounds)))
+
+pub stage_time-stamp_at-requires : goal.stage_time-stamp_at-requires
+stage_time-stamp_at-requires t c = stands-stamped _ c.args.log.now c.args.subject c.requires.stands
+
+pub stage_time-returns : goal.stage_time-returns
+stage_time-returns t c =
+    stage-here c.args.terms.now c.args.log.now (drop starts_from c.args.table.now) c.args.subject c.args.schema c.requires.ready.read.1.starts c.requires.schema_in_bounds c.args.stage
+    c.stage_from.ensures c.norm_type-norm.ensures (c.stamp_at.ensures _) c.detach_needs-needed.ensures c.consequent_needs-needed_last.ensures
+    c.clause_times-c.ensures c.clause_times-r.ensures c.clause_times-u.ensures
