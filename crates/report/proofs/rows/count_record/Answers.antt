@@ -3,7 +3,6 @@ use Prim.Native.Nat.{ℕ, ◌+◌}
 use native.Mathlib.Omega.{arith}
 use mathlib.Core.Path.{◌≡◌, ap, sym, ◌∙◌}
 use mathlib.Core.List.{List}
-use borrow.Author.Rules.{rules}
 use lib.ListN.{length, length-append}
 use Rattle.meaning.specs.declared.Time.{Time}
 use Rattle.meaning.specs.declared.Stage.TheVariants.{Created, Detached, Expired, Discharged, Violated}
@@ -17,8 +16,7 @@ use Rattle.records.proofs.Steps.{stands-inside}
 use Rattle.evaluate.specs.Seen.{record_in}
 use Rattle.report.specs.Shown.{entries_in, record_rows}
 use Rattle.report.proofs.RowSteps.{row_in, record-other, record-shown}
-use Rattle.report.proofs.rows.count_record.Statement.{statement}
-use Rattle.report.proofs.rows.count_record.Tie as tie
+use Rattle.report.proofs.rows.count_record.Goals as goal
 
 -- how many rows an entry has
 abbrev Shows : ℕ → Time → Type 0
@@ -33,37 +31,26 @@ counted terms log schema m at is e p q r s t =
     let row = row_of (terms_of terms) schema (record_in terms log at) in
     rw (p (row Created), q (row Detached), r (row Expired), s (row Discharged), t (row Violated), record-shown terms log schema m at is e) (simp length-append (omega arith))
 
-returns : tie.Need-returns
+pub bounds-log-subject : goal.bounds-log-subject
+bounds-log-subject c = stands-inside _ c.args.log.now c.args.asked.subject c.requires.stands
+
+pub subject_of-requires : goal.subject_of-requires
+subject_of-requires c = c.requires.ready.read
+
+pub returns-then-log-subject : goal.returns-then-log-subject
+unfolding byte_at
+returns-then-log-subject c =
+    let a = c.args in
+    (sym (ap length (record-other a.terms.now a.log.now a.asked.schema a.asked.moment a.asked.subject (λ e. c.if-log-subject.true (e ∙ sym c.subject_of.ensures)))), omega arith)
+
+pub entries_of-entries-requires : goal.entries_of-entries-requires
+entries_of-entries-requires c = record { ready = c.requires.ready; schema_in_bounds = c.requires.schema_in_bounds; stands = c.requires.stands }
+
+pub returns : goal.returns
 unfolding byte_at
 returns c =
-    let a = c.before.before.before.before.before.before.args in
-    (sym (ap length (record-other a.terms.now a.log.now a.asked.schema a.asked.moment a.asked.subject (λ e. c.if1.true (e ∙ sym c.before.subject-of.ensures)))), omega arith)
-
-returns-2 : tie.Need-returns-2
-unfolding byte_at
-returns-2 c =
-    let e = c.before.before.before.before.before in
-    let a = e.before.before.before.before.before.before.before.args in
-    let all = counted a.terms.now a.log.now a.asked.schema a.asked.moment a.asked.subject (e.before.if1.false ∙ e.before.before.subject-of.ensures) e.entries-of.ensures
-    c.before.before.before.before.row_count.ensures.0 c.before.before.before.row-count2.ensures.0 c.before.before.row-count3.ensures.0
-    c.before.row-count4.ensures.0 c.row-count5.ensures.0 in
+    let a = c.args in
+    let all = counted a.terms.now a.log.now a.asked.schema a.asked.moment a.asked.subject (c.if-log-subject.false ∙ c.subject_of.ensures) c.entries_of-entries.ensures
+    c.row_count.ensures.0 c.row_count-2.ensures.0 c.row_count-3.ensures.0
+    c.row_count-4.ensures.0 c.row_count-5.ensures.0 in
     (all, omega arith)
-
-pub count-record-spec : {M : Type 1} → statement M
-count-record-spec =
-    tie.close
-    (tie.spec
-    (λ c. let start = c.before.before.before.before in stands-inside _ start.args.log.now start.args.asked.subject start.requires.1.1)
-    (λ c κs. c.before.before.before.before.requires.0.read)
-    returns
-    (λ c κs. c.before.before.before.before.before.before.requires)
-    (λ c κs. search rules)
-    (λ c κs. search rules)
-    (λ c. search rules)
-    (λ c κs. search rules)
-    (λ c. search rules)
-    (λ c κs. search rules)
-    (λ c. search rules)
-    (λ c κs. search rules)
-    (λ c. search rules)
-    returns-2)

@@ -1,0 +1,88 @@
+-- `standing` meets its contract: the checks of call 2, then the schema, then the subject, then its entries. Assumes nothing.
+use Prim.Native.Nat.{◌<◌}
+use native.Mathlib.Omega.{arith}
+use mathlib.Core.Path.{◌≡◌, sym}
+use mathlib.Core.List.{List, ◌++◌}
+use lib.ListN.{length, take}
+use lib.Seq.{length-take-le}
+use Rattle.format.specs.Grammar.{file_of}
+use Rattle.format.specs.Fields.{terms_of}
+use Rattle.format.specs.Records.{value_width}
+use Rattle.calls.specs.Calls.{Check, refusal, log_checks}
+use Rattle.calls.proofs.RefusalLaws.{LogAccepted}
+use Rattle.terms.proofs.Faults.{schemas_count}
+use Rattle.index.specs.declared.Place.TheVariants.{At}
+use Rattle.index.specs.Chains.{Ready}
+use Rattle.index.proofs.Links.{table_empty}
+use Rattle.event_log.proofs.Checks.{used-inside, log-kept}
+use Rattle.report.specs.Shown.{FoundAt}
+use Rattle.report.proofs.Sought.{standing-refused, standing-past, standing-nobody, standing-shown}
+use Rattle.report.proofs.standing.Goals.{After-schema_count, Else-schema_count-schema, In-At, In_default}
+use Rattle.report.proofs.standing.Goals as goal
+
+-- the log is accepted: what comes after it decides
+kept : (c : In_default) → let a = c.args in
+    LogAccepted value_width a.terms.now a.log.now a.used
+    × ((more : List Check) → refusal (log_checks value_width a.terms.now a.log.now a.used ++ more) ≡ refusal more)
+kept c = log-kept _ _ _ c.in_default.is c.check_log_under.ensures.0
+
+-- the table holds the terms and the used bytes of the log
+ready : (c : In_default) → let a = c.args in
+    Ready a.terms.now (take a.used a.log.now) c.check_log_under.new.table
+ready c = c.check_log_under.ensures.1 c.in_default.is
+
+-- how many schemas are told
+told : (c : After-schema_count) → c.schema_count.result ≡ length (file_of c.args.terms.now).schemas
+told c = omega (arith, c.schema_count.ensures.0, (c.check_log_under.ensures.1 c.in_default.is).read.1.count)
+
+-- the schema is there
+there : (c : Else-schema_count-schema) → let a = c.args in a.schema < length (file_of a.terms.now).schemas
+there c = omega (arith, c.if-schema_count-schema.false, c.schema_count.ensures.0, (c.check_log_under.ensures.1 c.in_default.is).read.1.count)
+
+-- also among the schemas of the model
+known : (c : Else-schema_count-schema) → let a = c.args in a.schema < length (terms_of a.terms.now).schemas
+known c = omega (arith, there c, schemas_count c.args.terms.now)
+
+-- the subject that is found
+found : (c : In-At) → let a = c.args in
+    FoundAt a.terms.now (take a.used a.log.now) a.schema a.key a.moment (At c.in-At.subject)
+found c = rw c.in-At.is at c.find_subject.ensures
+
+pub check_log_under-requires : goal.check_log_under-requires
+check_log_under-requires c = record { laid_out = c.read_layout-layout.ensures; empty = table_empty }
+
+pub returns-in-Refused : goal.returns-in-Refused
+returns-in-Refused c =
+    let a = c.args in
+    standing-refused a.terms.now a.log.now a.used a.schema a.key a.moment c.in-Refused.is c.check_log_under.ensures.0
+
+pub schema_count-requires : goal.schema_count-requires
+schema_count-requires c = (ready (goal.at.schema_count-requires c).In_default).read.0.long
+
+pub returns-then-schema_count-schema : goal.returns-then-schema_count-schema
+returns-then-schema_count-schema c =
+    let a = c.args in
+    standing-past a.terms.now a.log.now a.used a.schema a.key a.moment (kept (goal.at.returns-then-schema_count-schema c).In_default).1
+    (omega (arith, c.if-schema_count-schema.true, schemas_count a.terms.now, told (goal.at.returns-then-schema_count-schema c).After-schema_count))
+
+pub slice_bounds-records-end : goal.slice_bounds-records-end
+slice_bounds-records-end c =
+    let a = c.args in
+    sym (length-take-le a.used a.log.now (used-inside a.log.now a.used (kept (goal.at.slice_bounds-records-end c).In_default).0.used-fits))
+
+pub find_subject-requires : goal.find_subject-requires
+find_subject-requires c = (ready (goal.at.find_subject-requires c).In_default).read
+
+pub returns-in_default-find_subject : goal.returns-in_default-find_subject
+returns-in_default-find_subject c =
+    let a = c.args in
+    standing-nobody a.terms.now a.log.now a.used a.schema a.key a.moment (kept (goal.at.returns-in_default-find_subject c).In_default).1 (known (goal.at.returns-in_default-find_subject c).Else-schema_count-schema)
+    (rw c.in_default-find_subject.is at c.find_subject.ensures)
+
+pub entries_of-requires : goal.entries_of-requires
+entries_of-requires c = record { ready = ready (goal.at.entries_of-requires c).In_default; schema_in_bounds = there (goal.at.entries_of-requires c).Else-schema_count-schema; stands = (found (goal.at.entries_of-requires c).In-At).1 }
+
+pub returns : goal.returns
+returns c =
+    let a = c.args in
+    standing-shown a.terms.now a.log.now a.used a.schema a.key a.moment (kept (goal.at.returns c).In_default).1 (known (goal.at.returns c).Else-schema_count-schema) _ (found (goal.at.returns c).In-At) c.entries_of.ensures
