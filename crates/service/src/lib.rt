@@ -9,32 +9,28 @@ ghost use Rattle.calls.specs.Calls.{check_terms, check_log, append, report, serv
 use packing::{pack_appended, pack_checked, pack_reported};
 
 // Call 1: check terms.
-#[unsafe(no_mangle)]
-pub extern "C" fn agreements_check_terms(terms: &[u8]) -> u64
+pub fn agreements_check_terms(terms: &[u8]) -> u64
     ensures { result ≡ packed (check_terms terms.now) }
 {
     pack_checked(terms::check_terms(terms))
 }
 
 // Call 2: check a log under terms.
-#[unsafe(no_mangle)]
-pub extern "C" fn agreements_check_log(terms: &[u8], log: &[u8], used: usize) -> u64
+pub fn agreements_check_log(terms: &[u8], log: &[u8], used: usize) -> u64
     ensures { result ≡ packed (check_log value_width terms.now log.now used) }
 {
     pack_checked(event_log::check_log(terms, log, used))
 }
 
 // Call 3: append an event to a log.
-#[unsafe(no_mangle)]
-pub extern "C" fn agreements_append(terms: &[u8], log: &mut [u8], used: usize, event: &[u8]) -> u64
+pub fn agreements_append(terms: &[u8], log: &mut [u8], used: usize, event: &[u8]) -> u64
     ensures { (result, log.new) ≡ served (append value_width terms.now log.old used event.now) }
 {
     pack_appended(append::append(terms, log, used, event))
 }
 
 // Call 4: report at a moment.
-#[unsafe(no_mangle)]
-pub extern "C" fn agreements_report(
+pub fn agreements_report(
     terms: &[u8],
     log: &[u8],
     used: usize,
