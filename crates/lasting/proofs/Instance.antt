@@ -4,6 +4,7 @@ use Prim.Native.Nat.{ℕ}
 use native.Mathlib.Omega.{arith}
 use mathlib.Core.Path.{◌≡◌, refl}
 use mathlib.Core.List.{List, [], ◌∷◌, ◌++◌}
+use denote.MutBor.{MutBor}
 use denote.Ref.{Bor}
 use Rattle.calls.specs.declared.Refusal.TheVariants.{StampTooLow}
 use Rattle.calls.specs.declared.Appended.TheVariants as appended_case
@@ -67,15 +68,19 @@ lasts-of appends reports lasts tried = (
 abbrev lent_as : List ℕ → Bor (List ℕ)
 lent_as bytes = record { ref_ptr = (0, 0); now = bytes }
 
+-- and as they are lent to be written
+abbrev lent_for : List ℕ → MutBor (List ℕ)
+lent_for bytes = record { ref_ptr = (0, 0); ghost_name = 0; now = bytes }
+
 -- a result and a buffer at exit that a contract of append allows make a call
 append-by : (A : Type 0) (contract : AppendContract A) (answer_of : A → Answer) (held : HeldLog) (event : List ℕ) (result : A) (outcome : Outcome)
-    → contract ([], ([], ([], tt))) (lent_as terms, (lent_as held.buffer, (held.used, (lent_as event, tt)))) result (lent_as terms, (lent_as outcome.left, (held.used, (lent_as event, tt))))
+    → contract ([], ([], ([], tt))) (lent_as terms, (lent_for held.buffer, (held.used, (lent_as event, tt)))) result (lent_as terms, (lent_for outcome.left, (held.used, (lent_as event, tt))))
     → answer_of result ≡ outcome.answer → AppendBy A contract answer_of terms held event outcome
 append-by A contract answer_of held event result outcome ensured answered = record {
   lifetimes = ([], ([], ([], tt)));
-  lent = (lent_as terms, (lent_as held.buffer, (held.used, (lent_as event, tt))));
+  lent = (lent_as terms, (lent_for held.buffer, (held.used, (lent_as event, tt))));
   result = result;
-  at_exit = (lent_as terms, (lent_as outcome.left, (held.used, (lent_as event, tt))));
+  at_exit = (lent_as terms, (lent_for outcome.left, (held.used, (lent_as event, tt))));
   ensured = ensured;
   of_terms = refl;
   of_buffer = refl;
@@ -87,13 +92,13 @@ append-by A contract answer_of held event result outcome ensured answered = reco
 
 -- a result and a page at exit that a contract of report allows make a call
 report-by : (A : Type 0) (contract : ReportContract A) (answer_of : A → Answer) (held : HeldLog) (m : ℕ) (page : List ℕ) (result : A) (outcome : Outcome)
-    → contract ([], ([], ([], tt))) (lent_as terms, (lent_as held.buffer, (held.used, (m, (lent_as page, tt))))) result (lent_as terms, (lent_as held.buffer, (held.used, (m, (lent_as outcome.left, tt)))))
+    → contract ([], ([], ([], tt))) (lent_as terms, (lent_as held.buffer, (held.used, (m, (lent_for page, tt))))) result (lent_as terms, (lent_as held.buffer, (held.used, (m, (lent_for outcome.left, tt)))))
     → answer_of result ≡ outcome.answer → ReportBy A contract answer_of terms held m page outcome
 report-by A contract answer_of held m page result outcome ensured answered = record {
   lifetimes = ([], ([], ([], tt)));
-  lent = (lent_as terms, (lent_as held.buffer, (held.used, (m, (lent_as page, tt)))));
+  lent = (lent_as terms, (lent_as held.buffer, (held.used, (m, (lent_for page, tt)))));
   result = result;
-  at_exit = (lent_as terms, (lent_as held.buffer, (held.used, (m, (lent_as outcome.left, tt)))));
+  at_exit = (lent_as terms, (lent_as held.buffer, (held.used, (m, (lent_for outcome.left, tt)))));
   ensured = ensured;
   of_terms = refl;
   of_buffer = refl;
