@@ -12,9 +12,8 @@ ghost use Rattle.std.specs.Prelude.{◌+◌, ◌≤◌, length};
 ghost use Rattle.cases.specs.Within.{Within};
 
 use ask::{Ask, read_call, read_used};
-use console::say;
+use console::{STDIN, say};
 use grammar::byte_at;
-use libc::STDIN_FILENO;
 use runs::{LOG_LENGTH, run_call};
 use show::show_bad;
 use text::{NO_BYTE, Number, ends_word, pair, past, read_number, skip, word_end};
@@ -347,7 +346,7 @@ fn main() {
     let mut terms = [0u8; 20000];
     let mut log = [0u8; LOG_LENGTH];
     let mut event = [0u8; 256];
-    let n = io::read_full(STDIN_FILENO, &mut text);
+    let n = io::read_full(STDIN, &mut text);
     if n == text.len() {
         show_bad();
         return;

@@ -2,9 +2,8 @@
 ghost use Rattle.std.specs.Prelude.{◌≤◌, length};
 
 use calls::{Appended, Checked, Refusal, Reported, Standing};
-use console::{say, say_next, say_refusal, say_rows};
+use console::{STDOUT, say, say_next, say_refusal, say_rows};
 use grammar::byte_at;
-use libc::STDOUT_FILENO;
 use meaning::{Entries, Time};
 use report::ROW_LENGTH;
 
@@ -93,7 +92,7 @@ fn show_bytes(log: &[u8], from: usize, to: usize) {
     say(b"  put ");
     let mut at = from;
     while at < to {
-        io::print_hex(STDOUT_FILENO, byte_at(log, at) as u64, 2);
+        io::print_hex(STDOUT, byte_at(log, at) as u64, 2);
         at += 1;
     }
     say(b"\n");

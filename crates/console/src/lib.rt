@@ -5,29 +5,34 @@ ghost use Rattle.std.specs.Prelude.{◌+◌, ◌≤◌, length};
 
 use calls::Refusal;
 use grammar::{byte_at, u32_at};
-use libc::{STDIN_FILENO, STDOUT_FILENO};
 use meaning::{Stage, StageForm};
 use report::ROW_LENGTH;
 
+// The number of standard input.
+pub const STDIN: i32 = 0;
+
+// The number of standard output.
+pub const STDOUT: i32 = 1;
+
 // Fills a buffer from standard input. Whether there was enough.
 pub fn fill(buffer: &mut [u8]) -> bool {
-    io::read_full(STDIN_FILENO, buffer) == buffer.len()
+    io::read_full(STDIN, buffer) == buffer.len()
 }
 
 // Whether nothing is left of standard input.
 pub fn at_end() -> bool {
     let mut more = [0u8; 1];
-    io::read_full(STDIN_FILENO, &mut more) == 0
+    io::read_full(STDIN, &mut more) == 0
 }
 
 // Prints bytes as they are.
 pub fn say(words: &[u8]) {
-    io::write_all(STDOUT_FILENO, words);
+    io::write_all(STDOUT, words);
 }
 
 // Prints a number.
 pub fn say_number(n: u64) {
-    io::print_decimal(STDOUT_FILENO, n);
+    io::print_decimal(STDOUT, n);
 }
 
 // Prints a number, with a space before it.
