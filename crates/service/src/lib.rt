@@ -30,13 +30,7 @@ pub fn agreements_append(terms: &[u8], log: &mut [u8], used: usize, event: &[u8]
 }
 
 // Call 4: report at a moment.
-pub fn agreements_report(
-    terms: &[u8],
-    log: &[u8],
-    used: usize,
-    moment: u32,
-    page: &mut [u8],
-) -> u64
+pub fn agreements_report(terms: &[u8], log: &[u8], used: usize, moment: u32, page: &mut [u8]) -> u64
     ensures { (result, page.new) ≡ served (report value_width terms.now log.now used moment page.old) }
 {
     pack_reported(report::report(terms, log, used, moment, page))

@@ -3,7 +3,7 @@ use Rattle.std.proofs.Common.{◌≡◌, ◌-◌, ◌≤◌, length}
 use Rattle.cases.proofs.read_digits.Given as goal
 
 abbrev pub invariant-loop-end : goal.invariant-loop-end
-invariant-loop-end l = 
+invariant-loop-end l =
     (l.from ≤ l.at) × (l.at ≤ length l.text) × (l.start ≤ l.end) × (l.end ≤ length l.initial.buffer) × (length l.buffer ≡ length l.initial.buffer)
 
 abbrev pub decreases-loop-end : goal.decreases-loop-end

@@ -237,13 +237,12 @@ pub first_within-first_word-at-requires : goal.first_within-first_word-at-requir
 first_within-first_word-at-requires t c = record { word_lt_number_limit = c.mark_of-mark.ensures.word_low; table_len = c.requires.ready.indexed.long }
 
 pub first_within-loop-at-init : goal.first_within-loop-at-init
-first_within-loop-at-init t c =
-    (
-      _,
-      walk_start _ _ _ _ c.requires.ready.indexed c.first_word-at.ensures,
-      found-stand _ _ _,
-      scan-start _ _ _ _ _ _ _ c.kind_of-kind.ensures c.mark_of-mark.ensures,
-    )
+first_within-loop-at-init t c = (
+  _,
+  walk_start _ _ _ _ c.requires.ready.indexed c.first_word-at.ensures,
+  found-stand _ _ _,
+  scan-start _ _ _ _ _ _ _ c.kind_of-kind.ensures c.mark_of-mark.ensures,
+)
 
 pub first_within-is_marked-requires : goal.first_within-is_marked-requires
 first_within-is_marked-requires t c =

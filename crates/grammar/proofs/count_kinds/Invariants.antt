@@ -3,7 +3,7 @@ use Prim.Native.Nat.{ℕ, ◌-◌, ◌*◌, ◌≤◌}
 use mathlib.Core.Path.{◌≡◌}
 use mathlib.Core.List.{List}
 use lib.ListN.{length, drop}
-use Rattle.format.specs.Bytes.{many, item}
+use Rattle.format.specs.Bytes.{item}
 use Rattle.format.specs.Grammar.{kinds_limit}
 use Rattle.format.proofs.ReaderLaws.{SoFar}
 use Rattle.grammar.proofs.count_kinds.Given as goal

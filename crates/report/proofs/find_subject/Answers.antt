@@ -1,5 +1,4 @@
 -- `find_subject` meets its contract: what the whole log says of the subject, the rest of it says. Assumes nothing.
-use Prim.Native.Nat.{◌-◌}
 use native.Mathlib.Omega.{arith}
 use mathlib.Core.Path.{refl, ◌∙◌}
 use Rattle.meaning.specs.Rows.{find, subject_of}

@@ -9,7 +9,7 @@ use Rattle.evaluate.specs.Seen.{log_in}
 use Rattle.report.proofs.find_subject.Given as goal
 
 abbrev pub invariant-loop-at : goal.invariant-loop-at
-invariant-loop-at l = 
+invariant-loop-at l =
     subject_of (terms_of l.terms) (log_in l.terms l.log) l.schema l.key l.moment ≡ find (is_sought (terms_of l.terms) l.schema l.key l.moment) (records_in value_width (terms_of l.terms) (drop l.at l.log))
 
 abbrev pub decreases-loop-at : goal.decreases-loop-at

@@ -1,9 +1,7 @@
 -- `expression_has` meets its contract: one step for each answer; the items fall at each call. Assumes nothing.
 use Prim.Native.Nat.{ℕ, ◌+◌, ◌≤◌, ◌<◌}
 use native.Mathlib.Omega.{arith}
-use mathlib.Core.Logic.{⊎_elim}
 use lib.ListN.{length}
-use borrow.Fn.PlainCycle.{is, and}
 use Rattle.format.specs.Bytes.{byte_at}
 use Rattle.format.proofs.ExprLaws.{leaf-item, count-item}
 use Rattle.terms.proofs.Clauses.{stands_here, stands-leaf, leaf-found, leaf-past, always-past, stands-first, stands-second, first_found, first-falls, second_walks}

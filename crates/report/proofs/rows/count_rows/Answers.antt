@@ -1,5 +1,4 @@
 -- `count_rows` meets its contract: what is counted and the rows of the schemas from the number on are all rows. Assumes nothing.
-use Prim.Native.Nat.{◌-◌}
 use native.Mathlib.Nat.{zero-add}
 use native.Mathlib.Omega.{arith}
 use mathlib.Core.Path.{◌≡◌, refl, ap}

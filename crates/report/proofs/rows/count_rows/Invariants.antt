@@ -8,7 +8,7 @@ use Rattle.report.specs.Shown.{schemas_from}
 use Rattle.report.proofs.rows.count_rows.Given as goal
 
 abbrev pub invariant-loop-schema : goal.invariant-loop-schema
-invariant-loop-schema l = 
+invariant-loop-schema l =
     (l.count + length (schemas_from l.terms l.log l.moment l.schema) ≡ length (schemas_from l.terms l.log l.moment 0))
     × (l.count ≤ index_limit * l.schema) × (l.schema ≤ length (file_of l.terms).schemas) × (length (file_of l.terms).schemas ≤ schemas_limit)
 

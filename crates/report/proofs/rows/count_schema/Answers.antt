@@ -1,5 +1,4 @@
 -- `count_schema` meets its contract: what is counted and the rows from the place on are all rows; a record has more bytes than rows. Assumes nothing.
-use Prim.Native.Nat.{◌-◌}
 use native.Mathlib.Nat.{zero-add}
 use native.Mathlib.Omega.{arith}
 use mathlib.Core.Path.{ap}

@@ -1,8 +1,8 @@
 -- `entries_of` meets its contract: each entry by the times of the three clauses. Assumes nothing.
-use Prim.Native.Nat.{ℕ, ◌*◌, ◌<◌}
+use Prim.Native.Nat.{◌<◌}
 use native.Mathlib.Omega.{arith}
 use mathlib.Core.Path.{◌≡◌, refl}
-use lib.ListN.{length, drop}
+use lib.ListN.{drop}
 use borrow.Author.Rules.{rules}
 use Rattle.meaning.specs.declared.Time.{Time}
 use Rattle.meaning.specs.declared.Time.TheVariants.{At}
@@ -10,12 +10,11 @@ use Rattle.meaning.specs.declared.Stage.{Stage}
 use Rattle.meaning.specs.declared.Stage.TheVariants.{Created, Detached, Expired, Discharged, Violated}
 use Rattle.meaning.specs.Time.{later_of, before}
 use Rattle.meaning.specs.Meaning.{stage_from}
-use Rattle.format.specs.Grammar.{schemas_limit, file_of}
+use Rattle.format.specs.Grammar.{schemas_limit}
 use Rattle.table.specs.Table.{starts_from}
 use Rattle.table.proofs.TableLaws.{schemas-few}
 use Rattle.records.proofs.Steps.{stands-stamped}
-use Rattle.index.specs.Chains.{Ready}
-use Rattle.evaluate.specs.Seen.{Posed, stage_in}
+use Rattle.evaluate.specs.Seen.{stage_in}
 use Rattle.report.proofs.Entries.{entry_here, entries-here}
 use Rattle.report.proofs.rows.entries_of.Goals.{After-clause_times-u, Start}
 use Rattle.report.proofs.rows.entries_of.Goals as goal

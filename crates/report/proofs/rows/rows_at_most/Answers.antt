@@ -1,5 +1,4 @@
 -- `rows_at_most` meets its contract: the sum so far and the rows of the schemas from the number on are no fewer than all rows. Assumes nothing.
-use Prim.Native.Nat.{◌-◌}
 use native.Mathlib.Omega.{arith}
 use mathlib.Core.Path.{◌≡◌, refl, ap}
 use lib.ListN.{length, length-append}

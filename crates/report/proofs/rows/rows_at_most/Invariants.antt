@@ -7,7 +7,7 @@ use Rattle.report.specs.Shown.{schemas_from}
 use Rattle.report.proofs.rows.rows_at_most.Given as goal
 
 abbrev pub invariant-loop-schema : goal.invariant-loop-schema
-invariant-loop-schema l = 
+invariant-loop-schema l =
     ((m : ℕ) → length (schemas_from l.terms l.log m 0) ≤ l.most + length (schemas_from l.terms l.log m l.schema))
     × (l.most ≤ 5 * index_limit * l.schema) × (l.schema ≤ length (file_of l.terms).schemas) × (length (file_of l.terms).schemas ≤ schemas_limit)
 

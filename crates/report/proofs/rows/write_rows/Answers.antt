@@ -1,5 +1,5 @@
 -- `write_rows` meets its contract: the rows of the schemas before a number are put, those of the schemas from it on are left. Assumes nothing.
-use Prim.Native.Nat.{◌-◌, ◌<◌}
+use Prim.Native.Nat.{◌<◌}
 use native.Mathlib.Nat.{zero-add, mul-div_right}
 use native.Mathlib.Omega.{arith}
 use mathlib.Core.Path.{◌≡◌, refl}

@@ -1,5 +1,4 @@
 -- `write_schema` meets its contract: the rows of the records read are put, those of the records from the place on are left. Assumes nothing.
-use Prim.Native.Nat.{◌-◌}
 use native.Mathlib.Omega.{arith}
 use Rattle.format.specs.Fields.{terms_of}
 use Rattle.format.specs.Records.{value_width}
