@@ -2,7 +2,7 @@
  * The sample share. Its terms are checked, four events are appended to an empty log, and a report is printed; then one event is refused and one
  * accepted, and a later report is printed, in which the first one's rows stand again. In the folder of crates.txt:
  *
- *     rt staticlib service
+ *     examples/archive
  *     gcc -std=c99 -Wall -Wextra -Werror -pedantic -Iinclude examples/share.c target/staticlib/libservice.a -o target/share
  *     target/share
  */

@@ -3,7 +3,7 @@
  *
  * Terms, log and rows are bytes; docs/FORMAT.md says what they hold and mean. Numbers of several bytes have their low byte first.
  * Each call answers one number, refusal times 4,294,967,296 plus count or length, which agreements_number and agreements_value split. Link
- * target/staticlib/libservice.a, which `rt staticlib service` writes.
+ * target/staticlib/libservice.a, which `examples/archive` writes.
  *
  * Memory
  * - Each pointer, with the length after it, lends that many bytes for the duration of the call. All of them must be initialised, those of
