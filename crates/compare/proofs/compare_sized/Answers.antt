@@ -5,15 +5,10 @@ use mathlib.Core.Path.{sym}
 use lib.ListN.{length, length-take}
 use lib.Seq.{length-take-le}
 use borrow.Author.Rules.{rules}
-use Rattle.compare.proofs.compare_sized.Goals.{After-compare_read-arg-5-1}
 use Rattle.compare.proofs.compare_sized.Goals as goal
 
--- log and page together are not longer than there is room for them
-room : (c : After-compare_read-arg-5-1) → c.size-of_log.result + c.size-of_page.result ≤ length c.args.after.now
-room c = search rules
-
 pub slice_bounds-compare_read-end-10 : goal.slice_bounds-compare_read-end-10
-slice_bounds-compare_read-end-10 c = sym (length-take-le _ _ (room c))
+slice_bounds-compare_read-end-10 c = let room : c.size-of_log.result + c.size-of_page.result ≤ length c.args.after.now = search rules in sym (length-take-le _ _ room)
 
 pub compare_read-requires : goal.compare_read-requires
-compare_read-requires c = simp length-take (omega (arith, room c))
+compare_read-requires c = let room : c.size-of_log.result + c.size-of_page.result ≤ length c.args.after.now = search rules in simp length-take (omega arith)

@@ -1,5 +1,7 @@
 -- `bound_at` meets its contract: each answer by the sign and the event that is read. Assumes nothing.
+use native.Mathlib.Omega.{arith}
 use mathlib.Core.Option.{bind}
+use lib.ListN.{get_or}
 use borrow.Author.Tests.{ne_eqb}
 use Rattle.format.specs.Bytes.{byte_at}
 use Rattle.format.specs.Fields.{bound_of}
@@ -33,4 +35,4 @@ returns-in-3 c = rw c.in-3.is
 
 pub returns-in_default : goal.returns-in_default
 unfolding bound_of byte_at
-returns-in_default c = simp (ne_eqb _ _ c.in_default.in_default-own.rest.1, ne_eqb _ _ c.in_default.in_default-own.rest.0.1, ne_eqb _ _ c.in_default.in_default-own.rest.0.0.1, ne_eqb _ _ c.in_default.in_default-own.rest.0.0.0.1)
+returns-in_default c = let b = get_or c.args.terms.now c.args.at 0 in simp (ne_eqb b 0 (λ e. omega arith), ne_eqb b 1 (λ e. omega arith), ne_eqb b 2 (λ e. omega arith), ne_eqb b 3 (λ e. omega arith))

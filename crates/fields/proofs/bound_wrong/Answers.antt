@@ -1,4 +1,5 @@
 -- `bound_wrong` meets its contract: each answer by the sign and the tests before it. Assumes nothing.
+use native.Mathlib.Omega.{arith}
 use borrow.Author.Tests.{eq-eqb, ne_eqb}
 use Rattle.format.specs.Bytes.{byte_at}
 use Rattle.format.specs.Fields.{not_zero, offset_limit, bound_wrong}
@@ -24,7 +25,7 @@ returns-then-number-ne0-2 c t h = rw (c.in-3.is, eq-eqb _ _ c.if-form-ne0-2.fals
 pub returns-then-event_wrong : goal.returns-then-event_wrong
 unfolding byte_at
 returns-then-event_wrong c t h =
-    rw (event-bound-wrong t _ _ c.in-1.in_default-own.rest.0.1 c.in-1.if-this-lt3-own.true, ← c.event_wrong.ensures t h, c.if-event_wrong.true)
+    rw (event-bound-wrong t c.args.terms.now c.args.at (λ e. omega arith) (omega arith), ← c.event_wrong.ensures t h, c.if-event_wrong.true)
 
 pub returns-else-number-ne0 : goal.returns-else-number-ne0
 unfolding bound_wrong not_zero offset_limit byte_at
@@ -40,7 +41,7 @@ pub returns-else-event_wrong : goal.returns-else-event_wrong
 unfolding offset_limit byte_at
 returns-else-event_wrong c t h =
     rw (
-      event-bound-wrong t _ _ c.in-1.in_default-own.rest.0.1 c.in-1.if-this-lt3-own.true,
+      event-bound-wrong t c.args.terms.now c.args.at (λ e. omega arith) (omega arith),
       ← c.event_wrong.ensures t h,
       c.if-event_wrong.false,
       c.u32_at-offset.ensures,
@@ -48,4 +49,4 @@ returns-else-event_wrong c t h =
 
 pub returns-in_default : goal.returns-in_default
 unfolding byte_at
-returns-in_default c t h = rw (no-bound-wrong t _ _ c.in_default.in_default-own.rest.1 c.in_default.if-this-lt3-own.false)
+returns-in_default c t h = rw (no-bound-wrong t c.args.terms.now c.args.at (λ e. omega arith) (omega arith))

@@ -10,7 +10,7 @@ use Rattle.format.proofs.PlaceLaws.{count-wrong-here}
 use Rattle.fields.proofs.count_wrong.Goals as goal
 
 pub overflow_cast-kind : goal.overflow_cast-kind
-overflow_cast-kind c = omega (arith, c.shared_slice_known-2-1.given (c.args.at + 1))
+overflow_cast-kind c = omega (arith, c.type_inv.terms (c.args.at + 1))
 
 pub returns-then-kinds-kind : goal.returns-then-kinds-kind
 unfolding byte_at

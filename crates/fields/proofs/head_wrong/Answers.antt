@@ -15,7 +15,7 @@ unfolding byte_at
 returns-then-norm_type-gt-POWER c = rw (head-wrong-here _ _ _ c.requires.0, ne_eqb _ _ c.if-norm_type-eq0.false, lt-ltb _ _ c.if-norm_type-gt-POWER.true)
 
 pub overflow_cast-subject : goal.overflow_cast-subject
-overflow_cast-subject c = omega (arith, c.shared_slice_known-3-1.given (c.args.at + 1))
+overflow_cast-subject c = omega (arith, c.type_inv.terms (c.args.at + 1))
 
 pub returns-then-kinds-subject : goal.returns-then-kinds-subject
 unfolding byte_at

@@ -7,7 +7,7 @@ use Rattle.format.proofs.KindLaws.{kind-wrong-here}
 use Rattle.fields.proofs.kind_wrong.Goals as goal
 
 pub overflow_cast-number : goal.overflow_cast-number
-overflow_cast-number c = omega (arith, c.shared_slice_known-2-1.given (5 * c.args.i + 1))
+overflow_cast-number c = omega (arith, c.type_inv.terms (5 * c.args.i + 1))
 
 pub returns-then-number-i : goal.returns-then-number-i
 unfolding byte_at

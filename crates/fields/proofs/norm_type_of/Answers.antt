@@ -1,4 +1,5 @@
 -- `norm_type_of` meets its contract: byte by byte. Assumes nothing.
+use native.Mathlib.Omega.{arith}
 use borrow.Author.Tests.{ne_eqb}
 use Rattle.format.specs.Fields.{norm_type_of}
 use Rattle.fields.proofs.norm_type_of.Goals as goal
@@ -17,4 +18,4 @@ returns-in-3 c = rw c.in-3.is
 
 pub returns-in_default : goal.returns-in_default
 unfolding norm_type_of
-returns-in_default c = simp (ne_eqb _ _ c.in_default.in_default-own.rest.1, ne_eqb _ _ c.in_default.in_default-own.rest.0.1, ne_eqb _ _ c.in_default.in_default-own.rest.0.0.1)
+returns-in_default c = let b = c.args.byte in simp (ne_eqb b 3 (λ e. omega arith), ne_eqb b 2 (λ e. omega arith), ne_eqb b 1 (λ e. omega arith))
