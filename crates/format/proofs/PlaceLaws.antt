@@ -3,7 +3,7 @@
 --     number-drop, number-take, number-within                     the number there
 --     number_step, number-none                                    a number byte by byte, past the end too
 --     number-two, number-four                                     the two sums that code computes
---     left-over, byte_inside                                      whether a place is inside the bytes
+--     left_over, byte_inside                                      whether a place is inside the bytes
 --     drop-take, drop_here, item-…                                the front of the bytes from a place on, and the item that stands there or does not
 --     bound-here, leaf_by, count_by, …-here, …-wrong-here            a leaf's fields, and refusal 3 of them, by the bytes of the whole
 --     event-bound-wrong, no-bound-wrong                           refusal 3 at a bound with an event, and at one of no sign

@@ -3,7 +3,7 @@
 --     calls_last          calls that come to what the model says of them last, by the model's theorem
 --     append-by-model     a call of append comes to it where its contract says so;     report-by-model     so does one of report
 --     in-force            demand 3 for `append::append` and `report::report`
---     served-in-force     demand 3 for their exports
+--     served-in-force     demand 3 for the calls of `service`, which the exports call (`service_c` says it of these)
 -- Assumes nothing.
 use Prim.Native.Nat.{ℕ}
 use mathlib.Core.Path.{◌≡◌, refl, ap, ap₂, sym, subst, ◌∙◌}
@@ -117,7 +117,7 @@ served-back : (n : ℕ) (left : List ℕ) (o : Outcome) → (n, left) ≡ served
 unfolding served
 served-back n left o e split = ap₂ outcome split (ap (λ (x : ℕ × List ℕ). x.1) e)
 
--- demand 3 for the exports
+-- demand 3 for the calls of `service`
 pub served-in-force : CallsLast AppendServed ReportServed
 served-in-force =
     calls_last AppendServed ReportServed

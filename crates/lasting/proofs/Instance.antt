@@ -1,4 +1,4 @@
--- Demand 3 in force speaks of something: calls on the sample share that meet its premises, of the code and of the exports. A report at 45 is
+-- Demand 3 in force speaks of something: calls on the sample share that meet its premises, of the code and of `service`. A report at 45 is
 -- given; an append stamped 44 is refused, one stamped 45 accepted; the report at 46 has one row more, which is struck. Assumes nothing.
 use Prim.Native.Nat.{ℕ}
 use native.Mathlib.Omega.{arith}
@@ -122,7 +122,7 @@ made = record {
   other-made = report-by _ report_reads.Learnt reported_answer other 45 (rest 40) (reported_case.Count 2) of_other refl refl;
 }
 
--- calls of the exports: 51,539,607,552 is 12 times 4,294,967,296
+-- calls of `service`: 51,539,607,552 is 12 times 4,294,967,296
 pub made-served : Tried AppendServed ReportServed
 unfolding computes held_at_end
 made-served = record {
@@ -139,6 +139,6 @@ made-served = record {
 pub made-lasts : Remains value_width 45 given later × SameReport value_width given of_other
 made-lasts = lasts-of AppendMade ReportMade in-force made
 
--- and on those of the exports
+-- and on those of `service`
 pub served-lasts : Remains value_width 45 given later × SameReport value_width given of_other
 served-lasts = lasts-of AppendServed ReportServed served-in-force made-served

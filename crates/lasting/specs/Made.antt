@@ -83,10 +83,10 @@ AppendMade = AppendBy _ append_reads.Learnt appended_answer
 abbrev pub ReportMade : ReportRelation
 ReportMade = ReportBy _ report_reads.Learnt reported_answer
 
--- calls of the export `agreements_append`
+-- calls of `service::agreements_append`, which the export of that name calls
 abbrev pub AppendServed : AppendRelation
 AppendServed = AppendBy _ served_append_reads.Learnt unpacked
 
--- calls of the export `agreements_report`
+-- calls of `service::agreements_report`, likewise
 abbrev pub ReportServed : ReportRelation
 ReportServed = ReportBy _ served_report_reads.Learnt unpacked

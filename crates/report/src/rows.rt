@@ -187,7 +187,7 @@ fn agreement_of(terms: &[u8], log: &[u8], table: &[u16], subject: usize, schema:
     requires read { Read terms.now table.now }
     requires schema_in_bounds { schema < length (file_of terms.now).schemas }
     requires stands { Stands (terms_of terms.now) log.now subject }
-    requires subject_value { (record_in terms.now log.now subject).kind ≡ (schema_at (terms_of terms.now) schema).subject }
+    requires of_subject_kind { (record_in terms.now log.now subject).kind ≡ (schema_at (terms_of terms.now) schema).subject }
     ensures { (s : Stage) (t : ℕ) → row_by result s t ≡ row_of (terms_of terms.now) schema (record_in terms.now log.now subject) s t }
 {
     let carrier = Masked {
@@ -260,7 +260,7 @@ fn write_record(
     requires ready { Ready terms.now log.now table.now }
     requires schema_in_bounds { asked.schema < length (file_of terms.now).schemas }
     requires stands { Stands (terms_of terms.now) log.now asked.subject }
-    requires subject_in_bounds { to + row_length value_width * length (record_rows terms.now log.now asked.schema asked.moment asked.subject) ≤ length page.old }
+    requires rows_fit { to + row_length value_width * length (record_rows terms.now log.now asked.schema asked.moment asked.subject) ≤ length page.old }
     ensures { (result ≡ to + row_length value_width * length (record_rows terms.now log.now asked.schema asked.moment asked.subject)) × (page.new ≡ with_rows page.old to (record_rows terms.now log.now asked.schema asked.moment asked.subject)) }
 {
     let subject = asked.subject;
@@ -294,7 +294,7 @@ fn write_schema(
 ) -> usize
     requires ready { Ready terms.now log.now table.now }
     requires schema_in_bounds { schema < length (file_of terms.now).schemas }
-    requires moment_in_bounds { from + row_length value_width * length (rows_from terms.now log.now schema moment 0) ≤ length page.old }
+    requires rows_fit { from + row_length value_width * length (rows_from terms.now log.now schema moment 0) ≤ length page.old }
     ensures { (result ≡ from + row_length value_width * length (rows_from terms.now log.now schema moment 0)) × (page.new ≡ with_rows page.old from (rows_from terms.now log.now schema moment 0)) }
 {
     let mut to = from;
@@ -323,7 +323,7 @@ pub(crate) fn write_rows(
     page: &mut [u8],
 ) -> usize
     requires ready { Ready terms.now log.now table.now }
-    requires moment_in_bounds { row_length value_width * length (schemas_from terms.now log.now moment 0) ≤ length page.old }
+    requires rows_fit { row_length value_width * length (schemas_from terms.now log.now moment 0) ≤ length page.old }
     ensures { (result ≡ length (schemas_from terms.now log.now moment 0)) × (page.new ≡ with_rows page.old 0 (schemas_from terms.now log.now moment 0)) }
 {
     let mut to: usize = 0;

@@ -1,4 +1,4 @@
--- What the proofs of the exports cite, and the split of their answers.
+-- What the proofs of the four functions cite, and the split of their answers.
 pub mod Serving
 pub mod Values
 pub mod Split

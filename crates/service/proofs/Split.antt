@@ -1,5 +1,5 @@
 -- The header's split of an answer is right: the quotient by 4,294,967,296 is the refusal's number or 0, the remainder is the count or length.
--- For each export, of whatever its contract lets it answer: `Learnt` is the toolchain's own reading of the contract, for the arguments a in their
+-- For each function that an export calls, of whatever its contract lets it answer: `Learnt` is the toolchain's own reading of the contract, for the arguments a in their
 -- order, the answer r, and the arguments s as the call leaves them. Assumes nothing.
 use Prim.Native.Nat.{ℕ, ◌<◌}
 use native.Mathlib.Omega.{arith}

@@ -247,7 +247,7 @@ first_within-loop-at-init t c = (
 pub first_within-is_marked-requires : goal.first_within-is_marked-requires
 first_within-is_marked-requires t c =
     let n = first_within-here t c in
-    let i = c.requires.ready.indexed in record { at_bound = n.owner; slot_width_in_bounds = n.inside; log_len_bound = i.short; table_len = i.long; word_lt_number_limit = c.mark_of-mark.ensures.word_low }
+    let i = c.requires.ready.indexed in record { owner_before = n.owner; slot_width_in_bounds = n.inside; log_len_bound = i.short; table_len = i.long; word_lt_number_limit = c.mark_of-mark.ensures.word_low }
 
 pub first_within-owner_of-requires : goal.first_within-owner_of-requires
 first_within-owner_of-requires t c = record { at_lt_index_limit = (first_within-slot t (goal.at.first_within-owner_of-requires t c).In-loop-at).0; table_len = (first_within-slot t (goal.at.first_within-owner_of-requires t c).In-loop-at).1 }
@@ -284,18 +284,18 @@ first_within-returns t c = let i = c.loop-at.invariant in scan-end _ _ _ _ _ _ _
 -- happening
 
 pub happening-correlates-requires : goal.happening-correlates-requires
-happening-correlates-requires t c = record { kinds = c.requires.ready.read.0; stands = c.requires.posed.stands; stands_2 = c.requires.stands }
+happening-correlates-requires t c = record { kinds = c.requires.ready.read.0; stands = c.requires.posed.stands; other_stands = c.requires.stands }
 
 pub happening-returns-then-not-correlates : goal.happening-returns-then-not-correlates
 happening-returns-then-not-correlates t c =
-    happens-not _ _ _ _ _ _ c.requires.at_value c.correlates.ensures c.if-not-correlates.true
+    happens-not _ _ _ _ _ _ c.requires.of_event_kind c.correlates.ensures c.if-not-correlates.true
 
 pub happening-stamp_at-requires : goal.happening-stamp_at-requires
 happening-stamp_at-requires t c = stands-stamped _ c.args.log.now c.args.at c.requires.stands
 
 pub happening-returns-then-clause-rank : goal.happening-returns-then-clause-rank
 happening-returns-then-clause-rank t c =
-    happens-above _ _ _ _ _ _ c.requires.at_value c.correlates.ensures c.if-not-correlates.false c.in-StageOf.is (omega arith)
+    happens-above _ _ _ _ _ _ c.requires.of_event_kind c.correlates.ensures c.if-not-correlates.false c.in-StageOf.is (omega arith)
 
 pub happening-stage_time-requires : goal.happening-stage_time-requires
 happening-stage_time-requires t c =
@@ -303,11 +303,11 @@ happening-stage_time-requires t c =
 
 pub happening-returns-in-Kind : goal.happening-returns-in-Kind
 happening-returns-in-Kind t c =
-    happens-kind _ _ _ _ _ _ c.requires.at_value c.correlates.ensures c.if-not-correlates.false c.in-Kind.is (c.stamp_at.ensures _)
+    happens-kind _ _ _ _ _ _ c.requires.of_event_kind c.correlates.ensures c.if-not-correlates.false c.in-Kind.is (c.stamp_at.ensures _)
 
 pub happening-returns-else-clause-rank : goal.happening-returns-else-clause-rank
 happening-returns-else-clause-rank t c =
-    happens-stage _ _ _ _ _ _ c.requires.at_value c.correlates.ensures c.if-not-correlates.false
+    happens-stage _ _ _ _ _ _ c.requires.of_event_kind c.correlates.ensures c.if-not-correlates.false
     c.in-StageOf.is (omega arith) c.stage_time.ensures
 
 -- known_bound

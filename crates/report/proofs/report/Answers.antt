@@ -48,7 +48,7 @@ returns-then-too_short c =
 
 pub write_rows-requires : goal.write_rows-requires
 write_rows-requires c =
-    let short = c.too_short.ensures in record { ready = ready (goal.at.write_rows-requires c).In_default; moment_in_bounds = ltb-false _ _ (sym short ∙ c.if-too_short.false) }
+    let short = c.too_short.ensures in record { ready = ready (goal.at.write_rows-requires c).In_default; rows_fit = ltb-false _ _ (sym short ∙ c.if-too_short.false) }
 
 pub returns : goal.returns
 returns c =

@@ -32,7 +32,7 @@ asked : (c : After-head_at-head) → let a = c.args in let mask = c.mask_in.resu
 unfolding byte_at
 asked c =
     parties-asked c.args.terms.now (drop starts_from c.args.table.now) c.args.schema c.requires.read.1.starts c.requires.schema_in_bounds
-    c.args.log.now c.args.subject c.requires.stands c.requires.subject_value c.requires.read.1.right (mask-there (terms_of c.args.terms.now) c.args.table.now c.args.log.now c.args.subject c.requires.read.0 c.requires.stands c.mask_in.ensures) c.head_at-head.ensures.0
+    c.args.log.now c.args.subject c.requires.stands c.requires.of_subject_kind c.requires.read.1.right (mask-there (terms_of c.args.terms.now) c.args.table.now c.args.log.now c.args.subject c.requires.read.0 c.requires.stands c.mask_in.ensures) c.head_at-head.ensures.0
 
 pub bounds-log-subject : goal.bounds-log-subject
 bounds-log-subject c = stands-inside _ c.args.log.now c.args.subject c.requires.stands
@@ -57,7 +57,7 @@ bounds-terms-head c = omega (arith, c.head_at-head.ensures.1)
 
 pub value_of-requires : goal.value_of-requires
 unfolding byte_at
-value_of-requires c = record { attribute_value = (asked (goal.at.value_of-requires c).After-head_at-head).0; inside = (asked (goal.at.value_of-requires c).After-head_at-head).2 }
+value_of-requires c = record { mask_carries = (asked (goal.at.value_of-requires c).After-head_at-head).0; inside = (asked (goal.at.value_of-requires c).After-head_at-head).2 }
 
 pub overflow_add-head-2 : goal.overflow_add-head-2
 overflow_add-head-2 c = omega (arith, c.head_at-head.ensures.1)
@@ -67,12 +67,12 @@ bounds-terms-head-2 c = omega (arith, c.head_at-head.ensures.1)
 
 pub value_of-requires-2 : goal.value_of-requires-2
 unfolding byte_at
-value_of-requires-2 c = record { attribute_value = (asked (goal.at.value_of-requires-2 c).After-head_at-head).1; inside = (asked (goal.at.value_of-requires-2 c).After-head_at-head).2 }
+value_of-requires-2 c = record { mask_carries = (asked (goal.at.value_of-requires-2 c).After-head_at-head).1; inside = (asked (goal.at.value_of-requires-2 c).After-head_at-head).2 }
 
 pub returns : goal.returns
 unfolding byte_at row_by
 returns c s t =
     let mask = sym (mask_is (goal.at.returns c).After-mask_in) in
     row_is c.args.terms.now (drop starts_from c.args.table.now) c.args.schema c.requires.read.1.starts c.requires.schema_in_bounds
-    c.args.log.now c.args.subject c.requires.stands c.requires.subject_value c.head_at-head.ensures.0
+    c.args.log.now c.args.subject c.requires.stands c.requires.of_subject_kind c.head_at-head.ensures.0
     c.key_at.ensures (c.value_of.ensures _ mask) (c.value_of-2.ensures _ mask) s t

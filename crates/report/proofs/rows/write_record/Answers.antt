@@ -67,7 +67,7 @@ left : (c : After-agreement_of-whose) → let a = c.args in
 unfolding byte_at
 left c =
     let e = all _ _ _ _ _ (c.if-log-subject.false ∙ c.subject_of.ensures) c.agreement_of-whose.ensures c.entries_of-entries.ensures in
-    rw (← e) (left-all _ _ _ c.requires.subject_in_bounds)
+    rw (← e) (left-all _ _ _ c.requires.rows_fit)
 
 pub bounds-log-subject : goal.bounds-log-subject
 bounds-log-subject c = stands-inside _ c.args.log.now c.args.asked.subject c.requires.stands
@@ -83,7 +83,7 @@ agreement_of-whose-requires c = record {
   read = c.requires.ready.read;
   schema_in_bounds = c.requires.schema_in_bounds;
   stands = c.requires.stands;
-  subject_value = kind_is _ _ _ (is (goal.at.agreement_of-whose-requires c).After-entries_of-entries);
+  of_subject_kind = kind_is _ _ _ (is (goal.at.agreement_of-whose-requires c).After-entries_of-entries);
 }
 
 pub write_entry-to-requires : goal.write_entry-to-requires

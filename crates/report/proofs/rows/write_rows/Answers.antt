@@ -26,7 +26,7 @@ there c = omega (arith, c.schema_count.ensures.0, c.requires.ready.read.1.count,
 
 pub loop-schema-init : goal.loop-schema-init
 unfolding schemas_limit
-loop-schema-init c = (left-all _ _ _ (rw zero-add c.requires.moment_in_bounds), omega arith, schemas-few c.args.terms.now refl)
+loop-schema-init c = (left-all _ _ _ (rw zero-add c.requires.rows_fit), omega arith, schemas-few c.args.terms.now refl)
 
 pub schema_count-requires : goal.schema_count-requires
 unfolding schemas_limit
@@ -34,7 +34,7 @@ schema_count-requires c = c.requires.ready.read.0.long
 
 pub write_schema-to-requires : goal.write_schema-to-requires
 write_schema-to-requires c =
-    let a = c.args in record { ready = c.requires.ready; schema_in_bounds = omega (arith, told (goal.at.write_schema-to-requires c).After-schema_count); moment_in_bounds = left-room c.loop-schema.invariant.0 (rows_from a.terms.now a.log.now c.loop-schema.schema a.moment 0) _ (schemas-step a.terms.now a.log.now a.moment c.loop-schema.schema (there (goal.at.write_schema-to-requires c).In-loop-schema)) }
+    let a = c.args in record { ready = c.requires.ready; schema_in_bounds = omega (arith, told (goal.at.write_schema-to-requires c).After-schema_count); rows_fit = left-room c.loop-schema.invariant.0 (rows_from a.terms.now a.log.now c.loop-schema.schema a.moment 0) _ (schemas-step a.terms.now a.log.now a.moment c.loop-schema.schema (there (goal.at.write_schema-to-requires c).In-loop-schema)) }
 
 pub overflow_add-schema : goal.overflow_add-schema
 unfolding schemas_limit

@@ -16,7 +16,7 @@ here : (c : In-To) → let a = c.args in
 here c = step _ _ _ c.in-To.is c.read_record.ensures
 
 pub loop-at-init : goal.loop-at-init
-loop-at-init c = left-all _ _ _ c.requires.moment_in_bounds
+loop-at-init c = left-all _ _ _ c.requires.rows_fit
 
 pub read_record-requires : goal.read_record-requires
 read_record-requires c = c.requires.ready.read.0
@@ -31,7 +31,7 @@ returns-in_default c =
 
 pub write_record-to-requires : goal.write_record-to-requires
 write_record-to-requires c =
-    let a = c.args in record { ready = c.requires.ready; schema_in_bounds = c.requires.schema_in_bounds; stands = (here (goal.at.write_record-to-requires c).In-To).stands; subject_in_bounds = left-room c.loop-at.invariant (record_rows a.terms.now a.log.now a.schema a.moment c.loop-at.at) _ (rows_step a.terms.now a.log.now a.schema a.moment c.loop-at.at (here (goal.at.write_record-to-requires c).In-To)) }
+    let a = c.args in record { ready = c.requires.ready; schema_in_bounds = c.requires.schema_in_bounds; stands = (here (goal.at.write_record-to-requires c).In-To).stands; rows_fit = left-room c.loop-at.invariant (record_rows a.terms.now a.log.now a.schema a.moment c.loop-at.at) _ (rows_step a.terms.now a.log.now a.schema a.moment c.loop-at.at (here (goal.at.write_record-to-requires c).In-To)) }
 
 pub loop-at-smaller : goal.loop-at-smaller
 loop-at-smaller c = omega (arith, (here (goal.at.loop-at-smaller c).In-To).stamped)

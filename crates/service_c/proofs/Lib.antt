@@ -1,0 +1,2 @@
+-- What is proved of the functions of `service` holds of the exports.
+pub mod Exported
