@@ -34,7 +34,7 @@ use Rattle.evaluate.proofs.+stage_times.Invariants.{weight}
 use Rattle.evaluate.proofs.+stage_times.Goals.{clause_times-After-start_in-at, failure-After-expression_at, first_within-In-loop-at, first_within-then-is_marked, first_within-else-is_marked, occurrence-After-expression_at, stage_time-Start}
 use Rattle.evaluate.proofs.+stage_times.Goals as goal
 
--- clause_times
+-- clause_times: the times of a clause, as many as are needed
 
 -- an expression of the clause may be asked for, where it is told which time is needed: it weighs less
 clause_times-asks : (t : ℕ) (c : clause_times-After-start_in-at t) (p : Needed) → let a = c.args in a.needed ≡ p
@@ -88,7 +88,7 @@ clause_times-returns-in-Never t c =
     let start = c.start_in-at.ensures in
     rw c.in-Both.is (fails-times _ _ _ _ _ (rw start at (sym c.occurrence-in-Both.ensures ∙ c.in-Never.is)) (rw start at c.failure-in-Never.ensures))
 
--- count_times
+-- count_times: the times of a count
 
 pub count_times-returns-in_default : goal.count_times-returns-in_default
 count_times-returns-in_default t c = search (count-no-lower, rules)
@@ -109,9 +109,9 @@ count_times-returns t c =
     count-few _ _ _ _ _ c.known_bound.ensures c.in-Known.is c.known_bound-2.ensures c.in-Known-known_bound.is
     c.reached.ensures c.later_of.ensures c.later_of-settled.ensures c.count_within-number.ensures c.if-count-number.false
 
--- failure
+-- failure: when an expression fails
 
--- what is failure-read at the place, as it is told
+-- what is read at the place, as it is told
 failure-read : (t : ℕ) (c : failure-After-expression_at t) (x : Expression) → c.expression_at.result ≡ x
     → let a = c.args in ExpressionAt a.terms.now a.at a.items x
 failure-read t c x e = let a = c.args in expression-as a.terms.now a.at a.items c.expression_at.ensures x e
@@ -199,19 +199,19 @@ failure-returns-in-Nothing t c =
     let a = c.args in
     rw (nothing-times a.terms.now a.log.now a.clause.rank a.clause.subject (failure-read t (goal.at.failure-returns-in-Nothing t c).After-expression_at _ c.in-Nothing.is))
 
--- first
+-- first: the earliest happening of an event
 
 pub first-returns : goal.first-returns
 first-returns t c = search (first-here, rules)
 
--- first_within
+-- first_within: the earliest happening in a window: a walk along the chain of the subject's mark
 
 -- what a turn knows of its word
 first_within-here : (t : ℕ) (c : first_within-In-loop-at t) → let a = c.args in
     Next a.log.now a.table.now c.mark_of-mark.result c.loop-at.at c.loop-at.invariant.0
 first_within-here t c = walk-next _ _ _ c.loop-at.invariant.1 c.loop-at-test.true
 
--- the word has a first_within-slot
+-- the word has a slot
 first_within-slot : (t : ℕ) (c : first_within-In-loop-at t) → let a = c.args in
     (c.loop-at.at < index_limit) × (length a.table.now ≡ table_length)
 first_within-slot t c =
@@ -281,7 +281,7 @@ first_within-loop-at-preserved t c =
 pub first_within-returns : goal.first_within-returns
 first_within-returns t c = let i = c.loop-at.invariant in scan-end _ _ _ _ _ _ _ (walk_end _ _ _ i.1 c.loop-at-test.false) i.3
 
--- happening
+-- happening: when an event happens by a record
 
 pub happening-correlates-requires : goal.happening-correlates-requires
 happening-correlates-requires t c = record { kinds = c.requires.ready.read.0; stands = c.requires.posed.stands; other_stands = c.requires.stands }
@@ -310,7 +310,7 @@ happening-returns-else-clause-rank t c =
     happens-stage _ _ _ _ _ _ c.requires.of_event_kind c.correlates.ensures c.if-not-correlates.false
     c.in-StageOf.is (omega arith) c.stage_time.ensures
 
--- known_bound
+-- known_bound: the value of a bound
 
 pub known_bound-returns-in_default : goal.known_bound-returns-in_default
 known_bound-returns-in_default t c = event-never _ _ _ _ _ _ _ c.first.ensures (inl c.in-Plus.is) c.in_default.is
@@ -330,7 +330,7 @@ known_bound-returns-in-At-first t c = search (minus-known, rules)
 pub known_bound-returns-in-Open : goal.known_bound-returns-in-Open
 known_bound-returns-in-Open t c = search (open-known, rules)
 
--- leaf_failure
+-- leaf_failure: when a leaf fails
 
 pub leaf_failure-returns-in_default : goal.leaf_failure-returns-in_default
 leaf_failure-returns-in_default t c = search (fails-no-upper, rules)
@@ -364,7 +364,7 @@ leaf_failure-returns-in-Never t c =
     c.first_within.ensures c.in-At-first_within.is c.known_bound-2.ensures c.in-Known-known_bound.is
     c.first_within-2.ensures c.in-Never.is c.later_of-in-Never.ensures c.later_of-in-Never-2.ensures
 
--- leaf_occurrence
+-- leaf_occurrence: when a leaf occurs
 
 pub leaf_occurrence-returns-in_default : goal.leaf_occurrence-returns-in_default
 leaf_occurrence-returns-in_default t c = search (occurs-no-lower, rules)
@@ -378,9 +378,9 @@ leaf_occurrence-returns t c =
     occurs _ _ _ _ _ c.known_bound.ensures c.in-Known.is c.known_bound-2.ensures c.in-Known-known_bound.is
     c.first_within-first.ensures c.later_of.ensures c.later_of-2.ensures
 
--- occurrence
+-- occurrence: when an expression occurs
 
--- what is occurrence-read at the place, as it is told
+-- what is read at the place, as it is told
 occurrence-read : (t : ℕ) (c : occurrence-After-expression_at t) (x : Expression) → c.expression_at.result ≡ x
     → let a = c.args in ExpressionAt a.terms.now a.at a.items x
 occurrence-read t c x e = let a = c.args in expression-as a.terms.now a.at a.items c.expression_at.ensures x e
@@ -468,7 +468,7 @@ occurrence-returns-in-Nothing t c =
     let a = c.args in
     rw (nothing-times a.terms.now a.log.now a.clause.rank a.clause.subject (occurrence-read t (goal.at.occurrence-returns-in-Nothing t c).After-expression_at _ c.in-Nothing.is))
 
--- stage_time
+-- stage_time: the time of a cited stage
 
 -- the most that a clause of rank k weighs
 stage_time-weight-most : (p : Needed) (k : ℕ) → weight p k ≤ k * 512 + 300
