@@ -25,7 +25,7 @@
  * counted before they are written.
  *
  * Records are looked up by a hash of their values, which is no secret. Whoever picks values with equal hashes makes each lookup walk through
- * most values of the log: on full logs made so under the sample's terms a report and a check took 40 to 110 times as long.
+ * most values of the log: on full logs made so under the sample's terms a report and a check took 25 to 110 times as long.
  *
  * A stage that a clause cites is worked out anew for each citation and each record that matches, and so is each stage that this one cites
  * in turn. So the cost multiplies along a chain of citations, and a report under accepted terms can take very long. For a log of one record

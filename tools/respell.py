@@ -16,7 +16,7 @@ import sys
 # the library's own new words, where plain snake case would be another name
 SPECIAL = {"getD": "get_or", "flatMap": "flat_map"}
 
-# lemmas whose names would fall together with that of a function in the same file: the lemma gets `_lem`
+# lemmas whose names would fall together with that of a definition which their file has or imports: the lemma gets `_lem`
 LEMMAS = {
     "crates/calls/proofs/Lasts.antt": "rows_left",
     "crates/calls/proofs/WriteLaws.antt": "no_room",

@@ -1,4 +1,4 @@
-// Calls 1 to 4 under the names and in the form that the library service, written in C, links: each is the call of `service` of its name.
+// Calls 1 to 4 as the library service, written in C, links them. Each calls the function of its name in `service`.
 #![tactic(auto)]
 
 ghost use Rattle.std.specs.Prelude.{◌≡◌};

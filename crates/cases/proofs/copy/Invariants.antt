@@ -1,4 +1,4 @@
--- What the loops of `copy` keep, and what falls.
+-- What the loop of `copy` keeps, and what falls.
 use Rattle.std.proofs.Common.{◌≡◌, ◌-◌, ◌≤◌, length}
 use Rattle.cases.proofs.copy.Given as goal
 

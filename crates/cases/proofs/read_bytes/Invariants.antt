@@ -1,4 +1,4 @@
--- What the loops of `read_bytes` keep, and what falls.
+-- What the loop of `read_bytes` keeps, and what falls.
 use Rattle.std.proofs.Common.{◌≡◌, ◌-◌, ◌≤◌, length}
 use Rattle.cases.proofs.read_bytes.Given as goal
 

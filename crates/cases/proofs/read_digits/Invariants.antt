@@ -1,4 +1,4 @@
--- What the loops of `read_digits` keep, and what falls.
+-- What the loop of `read_digits` keeps, and what falls.
 use Rattle.std.proofs.Common.{◌≡◌, ◌-◌, ◌≤◌, length}
 use Rattle.cases.proofs.read_digits.Given as goal
 

@@ -1,4 +1,4 @@
--- What the loops of `repeat` keep, and what falls.
+-- What the loop of `repeat` keeps, and what falls.
 use Rattle.std.proofs.Common.{◌≡◌, ◌≤◌, length}
 use Rattle.cases.proofs.repeat.Given as goal
 

@@ -1,4 +1,4 @@
--- What the loops of `run` keep, and what falls.
+-- What the loop of `run` keeps, and what falls.
 use Rattle.std.proofs.Common.{◌≡◌, ◌-◌, ◌≤◌, length}
 use Rattle.cases.proofs.run.Given as goal
 

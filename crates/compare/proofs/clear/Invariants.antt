@@ -1,4 +1,4 @@
--- What the loops of `clear` keep, and what falls.
+-- What the loop of `clear` keeps, and what falls.
 use Prim.Native.Nat.{◌≤◌, ◌-◌}
 use mathlib.Core.Path.{◌≡◌}
 use lib.ListN.{length}

@@ -1,4 +1,4 @@
--- What the loops of `compare_all` keep, and what falls.
+-- What the loop of `compare_all` keeps, and what falls.
 use Prim.Native.Nat.{◌≤◌, ◌*◌, ◌-◌}
 use Rattle.compare.proofs.compare_all.Given as goal
 

@@ -1,4 +1,4 @@
--- What the loops of `say_rows` keep, and what falls.
+-- What the loop of `say_rows` keeps, and what falls.
 use Prim.Native.Nat.{◌≤◌}
 use lib.ListN.{length}
 use Rattle.console.proofs.say_rows.Given as goal

@@ -1,4 +1,4 @@
--- What the loops of `count_kinds` keep, and what falls.
+-- What the loop of `count_kinds` keeps, and what falls.
 use Prim.Native.Nat.{ℕ, ◌-◌, ◌*◌, ◌≤◌}
 use mathlib.Core.Path.{◌≡◌}
 use mathlib.Core.List.{List}

@@ -1,4 +1,4 @@
--- What the loops of `read_layout` keep, and what falls.
+-- What the loop of `read_layout` keeps, and what falls.
 use Prim.Native.Nat.{◌-◌, ◌≤◌}
 use mathlib.Core.Path.{◌≡◌}
 use mathlib.Core.List.{List}

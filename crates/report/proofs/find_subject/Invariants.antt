@@ -1,4 +1,4 @@
--- What the loops of `find_subject` keep, and what falls.
+-- What the loop of `find_subject` keeps, and what falls.
 use Prim.Native.Nat.{◌-◌}
 use mathlib.Core.Path.{◌≡◌}
 use lib.ListN.{length, drop}

@@ -1,4 +1,4 @@
--- `some_kind_wrong` meets its contract. The loop's invariant: the answer is left to the kinds from `i` on. Assumes nothing.
+-- `some_kind_wrong` meets its contract: the answer is left to the kinds from `i` on. Assumes nothing.
 use Prim.Native.Nat.{ℕ, ◌+◌, ◌*◌, ◌<◌}
 use native.Mathlib.Omega.{arith}
 use mathlib.Core.Path.{◌≡◌, ap, sym, ◌∙◌}

@@ -1,4 +1,4 @@
--- What the loops of `some_kind_wrong` keep, and what falls.
+-- What the loop of `some_kind_wrong` keeps, and what falls.
 use Prim.Native.Nat.{ℕ, ◌-◌, ◌≤◌}
 use mathlib.Core.Bool.{Bool}
 use mathlib.Core.List.{List, []}

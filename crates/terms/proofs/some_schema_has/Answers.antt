@@ -1,4 +1,4 @@
--- `some_schema_has` meets its contract. The loop's invariant: the answer is left to the schemas from `n` on. Assumes nothing.
+-- `some_schema_has` meets its contract: the answer is left to the schemas from `n` on. Assumes nothing.
 use native.Mathlib.Omega.{arith}
 use mathlib.Core.Path.{sym, ◌∙◌}
 use Rattle.terms.proofs.Steps.{left-start, left-found, left-next, left_end}

@@ -1,4 +1,4 @@
--- What the loops of `some_schema_has` keep, and what falls.
+-- What the loop of `some_schema_has` keeps, and what falls.
 use Prim.Native.Nat.{◌-◌, ◌≤◌}
 use lib.ListN.{length}
 use Rattle.format.specs.Grammar.{file_of}

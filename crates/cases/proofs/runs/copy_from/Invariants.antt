@@ -1,4 +1,4 @@
--- What the loops of `copy_from` keep, and what falls.
+-- What the loop of `copy_from` keeps, and what falls.
 use Rattle.std.proofs.Common.{◌≡◌, ◌-◌, ◌≤◌, length}
 use Rattle.cases.proofs.runs.copy_from.Given as goal
 

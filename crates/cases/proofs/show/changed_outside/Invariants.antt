@@ -1,4 +1,4 @@
--- What the loops of `changed_outside` keep, and what falls.
+-- What the loop of `changed_outside` keeps, and what falls.
 use Rattle.std.proofs.Common.{◌-◌, ◌≤◌, length}
 use Rattle.cases.proofs.show.changed_outside.Given as goal
 

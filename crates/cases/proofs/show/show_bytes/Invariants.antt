@@ -1,4 +1,4 @@
--- What the loops of `show_bytes` keep, and what falls.
+-- What the loop of `show_bytes` keeps, and what falls.
 use Rattle.std.proofs.Common.{◌-◌}
 use Rattle.cases.proofs.show.show_bytes.Given as goal
 

@@ -1,4 +1,4 @@
--- What the loops of `written_from` keep, and what falls.
+-- What the loop of `written_from` keeps, and what falls.
 use Rattle.std.proofs.Common.{◌-◌, ◌≤◌, length}
 use Rattle.cases.proofs.show.written_from.Given as goal
 

@@ -1,4 +1,4 @@
--- What the loops of `move_row` keep, and what falls.
+-- What the loop of `move_row` keeps, and what falls.
 use Rattle.std.proofs.Common.{◌≡◌, ◌-◌, ◌≤◌, length}
 use Rattle.cases.proofs.strike.move_row.Given as goal
 

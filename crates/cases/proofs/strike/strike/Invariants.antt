@@ -1,4 +1,4 @@
--- What the loops of `strike` keep, and what falls.
+-- What the loop of `strike` keeps, and what falls.
 use Rattle.std.proofs.Common.{◌≡◌, ◌-◌, ◌≤◌, length}
 use Rattle.cases.proofs.strike.strike.Given as goal
 

@@ -1,4 +1,4 @@
--- What the loops of `read_number` keep, and what falls.
+-- What the loop of `read_number` keeps, and what falls.
 use Rattle.std.proofs.Common.{◌-◌, ◌≤◌, length}
 use Rattle.cases.proofs.text.read_number.Given as goal
 

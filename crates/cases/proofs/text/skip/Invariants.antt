@@ -1,4 +1,4 @@
--- What the loops of `skip` keep, and what falls.
+-- What the loop of `skip` keeps, and what falls.
 use Rattle.std.proofs.Common.{◌-◌, ◌≤◌, length}
 use Rattle.cases.proofs.text.skip.Given as goal
 

@@ -1,4 +1,4 @@
--- What the loops of `word_end` keep, and what falls.
+-- What the loop of `word_end` keeps, and what falls.
 use Rattle.std.proofs.Common.{◌-◌, ◌≤◌, length}
 use Rattle.cases.proofs.text.word_end.Given as goal
 

@@ -1,4 +1,4 @@
--- What the loops of `count_rows` keep, and what falls.
+-- What the loop of `count_rows` keeps, and what falls.
 use Prim.Native.Nat.{◌+◌, ◌-◌, ◌*◌, ◌≤◌}
 use mathlib.Core.Path.{◌≡◌}
 use lib.ListN.{length}

@@ -1,4 +1,4 @@
--- What the loops of `rows_at_most` keep, and what falls.
+-- What the loop of `rows_at_most` keeps, and what falls.
 use Prim.Native.Nat.{ℕ, ◌+◌, ◌-◌, ◌*◌, ◌≤◌}
 use lib.ListN.{length}
 use Rattle.format.specs.Grammar.{schemas_limit, file_of}

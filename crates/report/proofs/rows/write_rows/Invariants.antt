@@ -1,4 +1,4 @@
--- What the loops of `write_rows` keep, and what falls.
+-- What the loop of `write_rows` keeps, and what falls.
 use Prim.Native.Nat.{◌-◌, ◌≤◌}
 use lib.ListN.{length}
 use Rattle.format.specs.Grammar.{schemas_limit, file_of}

@@ -1,4 +1,4 @@
--- What the loops of `write_schema` keep, and what falls.
+-- What the loop of `write_schema` keeps, and what falls.
 use Prim.Native.Nat.{◌-◌}
 use lib.ListN.{length}
 use Rattle.report.specs.Shown.{rows_from}
