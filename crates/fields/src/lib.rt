@@ -9,10 +9,7 @@ ghost use Rattle.format.specs.Grammar.{file_of};
 ghost use Rattle.format.specs.Fields.{norm_type_of, event_of, bound_of, neither, leaf_from, kind_wrong, head_wrong, event_wrong, bound_wrong, leaf_wrong, terms_of};
 ghost use Rattle.fields.specs.Decoded.{event_in, bound_in, OperandsAt, ExpressionAt};
 
-use grammar::{
-    ALWAYS, AND, COUNT, COUNT_BODY, EXCEPT, ExpressionReading, LEAF, LEAF_BODY, OR, byte_at,
-    read_expression, u16_at, u32_at,
-};
+use grammar::{ALWAYS, AND, COUNT, COUNT_BODY, EXCEPT, ExpressionReading, LEAF, LEAF_BODY, OR, byte_at, read_expression, u16_at, u32_at};
 use meaning::{Atom, Bound, CountLeaf, Event, Leaf, NormType, Stage, StageForm};
 
 // The attributes that a mask has room for.

@@ -16,8 +16,7 @@ use borrow.Author.Tests.{ltb-true, ltb-false}
 use Rattle.meaning.specs.Terms.{leaf, always}
 use Rattle.format.specs.Bytes.{byte_at, item}
 use Rattle.format.specs.Grammar.{SchemaItems, size, read_both, read_leaf, read_expr, read_clause, read_schema}
-use Rattle.grammar.specs.declared.Reading.{Reading}
-use Rattle.grammar.specs.declared.Reading.TheVariants as reading
+use Rattle.std.specs.Prelude.{Option, Some, None}
 use Rattle.grammar.specs.declared.ExpressionReading.{ExpressionReading}
 use Rattle.grammar.specs.declared.ExpressionReading.TheVariants as expression
 use Rattle.grammar.specs.Found.{Found, FoundExpr}
@@ -66,13 +65,13 @@ module _ (items : ℕ) (s : List ℕ) (at : ℕ) where
   pub expr-no-kind : (3 ≤ byte_at s at → byte_at s at ≤ 8 → ⊥) → Reads items s at expression.Nothing
   expr-no-kind out n h = read_none n items s at out
 
-  module _ {kind body : ℕ} (is : LeafItem kind body) {r : Reading} (b : byte_at s at ≡ kind) (found : Found (item kind body) s at r) where
+  module _ {kind body : ℕ} (is : LeafItem kind body) {r : Option ℕ} (b : byte_at s at ≡ kind) (found : Found (item kind body) s at r) where
     -- a leaf that is cut off
-    pub expr-no-leaf : r ≡ reading.Nothing → Reads items s at expression.Nothing
+    pub expr-no-leaf : r ≡ None → Reads items s at expression.Nothing
     expr-no-leaf e n h = read-cut is n items s at b (rw e at found)
 
     -- a leaf
-    pub expr-leaf : {end : ℕ} → 1 ≤ items → r ≡ reading.To end → Reads items s at (expression.To end (items - 1))
+    pub expr-leaf : {end : ℕ} → 1 ≤ items → r ≡ Some end → Reads items s at (expression.To end (items - 1))
     unfolding read_leaf bind size
     expr-leaf {end} p e =
         let f = rw e at found in
@@ -112,8 +111,8 @@ item-ends kind n s at end {x} e h =
     (omega (arith, simp (length-drop, length-append) at (ap length front.0), front.1), rw behind (sym (take_at x (drop end s) n front.1)))
 
 -- a schema, with the places of its clauses
-pub schema-found : (s : List ℕ) (at create detach consequent end : ℕ) → Found (item 2 4) s at (reading.To create) → Found read_clause s create (reading.To detach)
-    → Found read_clause s detach (reading.To consequent) → Found read_clause s consequent (reading.To end)
+pub schema-found : (s : List ℕ) (at create detach consequent end : ℕ) → Found (item 2 4) s at (Some create) → Found read_clause s create (Some detach)
+    → Found read_clause s detach (Some consequent) → Found read_clause s consequent (Some end)
     → (x : SchemaItems) × (read_schema (drop at s) ≡ some (x, drop end s)) × ClausesAt s x create detach consequent end
 unfolding read_schema bind
 schema-found s at create detach consequent end h c r u =

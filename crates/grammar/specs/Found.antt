@@ -4,15 +4,14 @@ use Rattle.std.proofs.Math.Option.{none, some}
 use Rattle.meaning.specs.Terms.{Expr}
 use Rattle.format.specs.Bytes.{Reader}
 use Rattle.format.specs.Grammar.{size, read_expr}
-use Rattle.grammar.specs.declared.Reading.{Reading}
-use Rattle.grammar.specs.declared.Reading.TheVariants as reading
+use Rattle.std.specs.Prelude.{Option, Some, None}
 use Rattle.grammar.specs.declared.ExpressionReading.{ExpressionReading}
 use Rattle.grammar.specs.declared.ExpressionReading.TheVariants as expression
 
 -- something up to an end, or nothing
-abbrev pub Found : {A : Type 0} → Reader A → List ℕ → ℕ → Reading → Type 0
-Found {A} reader s at (reading.To end) = (x : A) × (reader (drop at s) ≡ some (x, drop end s)) × (at < end) × (end ≤ length s)
-Found {A} reader s at reading.Nothing = reader (drop at s) ≡ none
+abbrev pub Found : {A : Type 0} → Reader A → List ℕ → ℕ → Option ℕ → Type 0
+Found {A} reader s at (Some end) = (x : A) × (reader (drop at s) ≡ some (x, drop end s)) × (at < end) × (end ≤ length s)
+Found {A} reader s at None = reader (drop at s) ≡ none
 
 -- an expression of at most so many items stands at a place
 abbrev pub StandsExpr : List ℕ → ℕ → ℕ → Type 0

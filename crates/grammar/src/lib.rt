@@ -36,13 +36,6 @@ pub const KINDS_LIMIT: usize = 32;
 
 pub const SCHEMAS_LIMIT: usize = 16;
 
-// What is read at a place: something up to an end, or nothing.
-#[derive(Clone, Copy)]
-pub enum Reading {
-    To(usize),
-    Nothing,
-}
-
 // An expression read at a place: the place behind it, and how many items are left of those that it may have; or nothing.
 #[derive(Clone, Copy)]
 pub enum ExpressionReading {
@@ -109,19 +102,19 @@ pub fn u32_at(s: &[u8], at: usize) -> u32
 }
 
 // An item of a kind with a body of so many bytes, whatever they hold.
-fn read_item(s: &[u8], at: usize, kind: u8, body: usize) -> Reading
+fn read_item(s: &[u8], at: usize, kind: u8, body: usize) -> Option<usize>
     ensures { Found (item kind body) s.now at result }
 {
     if s.len() <= at {
-        return Reading::Nothing;
+        return None;
     }
     if s[at] != kind {
-        return Reading::Nothing;
+        return None;
     }
     if s.len() - at - 1 < body {
-        return Reading::Nothing;
+        return None;
     }
-    Reading::To(at + 1 + body)
+    Some(at + 1 + body)
 }
 
 // An expression of at most so many items: a leaf, a count, always, or a connective and its two operands.
@@ -133,7 +126,7 @@ pub fn read_expression(s: &[u8], at: usize, items: usize) -> ExpressionReading
     }
     match byte_at(s, at) {
         LEAF => {
-            let Reading::To(end) = read_item(s, at, LEAF, LEAF_BODY) else {
+            let Some(end) = read_item(s, at, LEAF, LEAF_BODY) else {
                 return ExpressionReading::Nothing;
             };
             ExpressionReading::To(end, items - 1)
@@ -146,7 +139,7 @@ pub fn read_expression(s: &[u8], at: usize, items: usize) -> ExpressionReading
         }
         ALWAYS => ExpressionReading::To(at + 1, items - 1),
         COUNT => {
-            let Reading::To(end) = read_item(s, at, COUNT, COUNT_BODY) else {
+            let Some(end) = read_item(s, at, COUNT, COUNT_BODY) else {
                 return ExpressionReading::Nothing;
             };
             ExpressionReading::To(end, items - 1)
@@ -156,29 +149,29 @@ pub fn read_expression(s: &[u8], at: usize, items: usize) -> ExpressionReading
 }
 
 // A clause: an expression of at most 31 items.
-fn read_clause(s: &[u8], at: usize) -> Reading
+fn read_clause(s: &[u8], at: usize) -> Option<usize>
     ensures { Found read_clause s.now at result }
 {
     let ExpressionReading::To(end, _) = read_expression(s, at, EXPRESSION_LIMIT) else {
-        return Reading::Nothing;
+        return None;
     };
-    Reading::To(end)
+    Some(end)
 }
 
 // A schema: its head, then create, detach and consequent.
 fn read_schema(s: &[u8], at: usize) -> SchemaReading
     ensures { FoundSchema s.now at result }
 {
-    let Reading::To(create) = read_item(s, at, SCHEMA, 4) else {
+    let Some(create) = read_item(s, at, SCHEMA, 4) else {
         return SchemaReading::Nothing;
     };
-    let Reading::To(detach) = read_clause(s, create) else {
+    let Some(detach) = read_clause(s, create) else {
         return SchemaReading::Nothing;
     };
-    let Reading::To(consequent) = read_clause(s, detach) else {
+    let Some(consequent) = read_clause(s, detach) else {
         return SchemaReading::Nothing;
     };
-    let Reading::To(end) = read_clause(s, consequent) else {
+    let Some(end) = read_clause(s, consequent) else {
         return SchemaReading::Nothing;
     };
     SchemaReading::Is(Clauses {
@@ -195,7 +188,7 @@ fn count_kinds(s: &[u8]) -> usize
 {
     let mut n: usize = 0;
     while n < KINDS_LIMIT {
-        let Reading::To(_) = read_item(s, 5 * n, KIND, 4) else {
+        let Some(_) = read_item(s, 5 * n, KIND, 4) else {
             return n;
         };
         n += 1;

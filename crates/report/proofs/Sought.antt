@@ -31,7 +31,7 @@ use Rattle.calls.proofs.AnswerLaws.{refusal-positive}
 use Rattle.calls.proofs.StandingLaws.{refused-entries}
 use Rattle.records.specs.Holds.{record_at}
 use Rattle.records.proofs.Steps.{Step}
-use Rattle.index.specs.declared.Place.TheVariants as place
+use Rattle.std.specs.Prelude.{Option, Some, None}
 use Rattle.event_log.proofs.Checks.{log-refused}
 use Rattle.evaluate.specs.Seen.{log_in, record_in}
 use Rattle.report.specs.Shown.{entries_in, FoundAt}
@@ -80,12 +80,12 @@ module _ (terms log : List ℕ) (used schema key m : ℕ) where
 
     module _ (there : schema < length (terms_of terms).schemas) where
       -- no subject was found
-      pub standing-nobody : FoundAt terms (take used log) schema key m place.Nowhere → standing_answer (standing_case.Refused NoSubject) ≡ standing value_width terms log used schema key m
+      pub standing-nobody : FoundAt terms (take used log) schema key m None → standing_answer (standing_case.Refused NoSubject) ≡ standing value_width terms log used schema key m
       unfolding standing_answer standing standing_as key_checks refusal no_schema missing standing_subject log_of log_in
       standing-nobody none = rw (kept, lt-leb (length (terms_of terms).schemas) schema there, none)
 
       -- the entries of the one that was found
-      pub standing-shown : (at : ℕ) {e : Entries} → FoundAt terms (take used log) schema key m (place.At at) → e ≡ entries_in terms (take used log) at schema m
+      pub standing-shown : (at : ℕ) {e : Entries} → FoundAt terms (take used log) schema key m (Some at) → e ≡ entries_in terms (take used log) at schema m
           → standing_answer (standing_case.Shown e) ≡ standing value_width terms log used schema key m
       unfolding standing_answer standing standing_as key_checks refusal no_schema missing standing_subject log_of log_in entries_in entries_for
       standing-shown at found is = rw (kept, lt-leb (length (terms_of terms).schemas) schema there, found.0, is)

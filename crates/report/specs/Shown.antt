@@ -11,8 +11,7 @@ use Rattle.format.specs.Bytes.{written}
 use Rattle.format.specs.Fields.{terms_of}
 use Rattle.format.specs.Records.{value_width, records_in, row_bytes}
 use Rattle.records.specs.Holds.{Stands}
-use Rattle.index.specs.declared.Place.{Place}
-use Rattle.index.specs.declared.Place.TheVariants as place
+use Rattle.std.specs.Prelude.{Option, Some, None}
 use Rattle.evaluate.specs.Seen.{log_in, record_in}
 use Rattle.report.specs.declared.rows.Agreement.{Agreement}
 
@@ -47,7 +46,7 @@ unfoldable pub with_rows : List ℕ → ℕ → List Row → List ℕ
 with_rows page at rows = written page at (flat_map (row_bytes value_width) rows)
 
 -- the place of the subject that a standing asks for, or none (call 5)
-abbrev pub FoundAt : List ℕ → List ℕ → ℕ → ℕ → ℕ → Place → Type 0
-FoundAt terms log schema key m (place.At at) =
+abbrev pub FoundAt : List ℕ → List ℕ → ℕ → ℕ → ℕ → Option ℕ → Type 0
+FoundAt terms log schema key m (Some at) =
     (subject_of (terms_of terms) (log_in terms log) schema key m ≡ some (record_in terms log at)) × Stands (terms_of terms) log at
-FoundAt terms log schema key m place.Nowhere = subject_of (terms_of terms) (log_in terms log) schema key m ≡ none
+FoundAt terms log schema key m None = subject_of (terms_of terms) (log_in terms log) schema key m ≡ none

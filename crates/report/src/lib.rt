@@ -16,8 +16,7 @@ ghost use Rattle.report.specs.Shown.{FoundAt};
 
 use calls::{Checked, Refusal, Reported, Standing};
 use event_log::check_log_under;
-use grammar::{Reading, read_layout};
-use index::Place;
+use grammar::read_layout;
 use records::{key_at, read_record, stamp_at};
 use rows::{Asked, entries_of, too_short, write_rows};
 use table::{TABLE_LENGTH, schema_count, subject_of};
@@ -72,21 +71,21 @@ fn find_subject(
     schema: usize,
     key: u32,
     moment: u32,
-) -> Place
+) -> Option<usize>
     requires { Read terms.now table.now }
     ensures { FoundAt terms.now log.now schema key moment result }
 {
     let mut at: usize = 0;
     while at < log.len() {
-        let Reading::To(end) = read_record(terms, log, table, at) else {
-            return Place::Nowhere;
+        let Some(end) = read_record(terms, log, table, at) else {
+            return None;
         };
         if is_sought(terms, log, table, at, schema, key, moment) {
-            return Place::At(at);
+            return Some(at);
         }
         at = end;
     }
-    Place::Nowhere
+    None
 }
 
 // Call 5: the standing of the agreement of a schema with a key at a moment.
@@ -109,7 +108,7 @@ pub fn standing(
         return Standing::Refused(Refusal::NoSchema);
     }
     let records = &log[..used];
-    let Place::At(subject) = find_subject(terms, records, &table, schema, key, moment) else {
+    let Some(subject) = find_subject(terms, records, &table, schema, key, moment) else {
         return Standing::Refused(Refusal::NoSubject);
     };
     let asked = Asked {

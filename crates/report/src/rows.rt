@@ -16,7 +16,6 @@ ghost use Rattle.report.specs.Shown.{entries_in, row_by, record_rows, rows_from,
 
 use crate::ROW_LENGTH;
 use evaluate::{Clause, clause_times};
-use grammar::Reading;
 use index::{all_of, count_with};
 use meaning::{Entries, Row, Stage, Time};
 use records::{Masked, key_at, read_record, stamp_at, value_of};
@@ -120,7 +119,7 @@ fn count_schema(terms: &[u8], log: &[u8], table: &[u16], schema: usize, moment: 
     let mut count: usize = 0;
     let mut at: usize = 0;
     while at < log.len() {
-        let Reading::To(end) = read_record(terms, log, table, at) else {
+        let Some(end) = read_record(terms, log, table, at) else {
             return count;
         };
         let asked = Asked {
@@ -300,7 +299,7 @@ fn write_schema(
     let mut to = from;
     let mut at: usize = 0;
     while at < log.len() {
-        let Reading::To(end) = read_record(terms, log, table, at) else {
+        let Some(end) = read_record(terms, log, table, at) else {
             return to;
         };
         let asked = Asked {

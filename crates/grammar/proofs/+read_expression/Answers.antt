@@ -33,26 +33,26 @@ returns-in_default-read_expression t c =
 pub read_expression-requires-in-4 : goal.read_expression-requires-in-4
 read_expression-requires-in-4 t c =
     let a = c.args in
-    (omega (arith, left-falls (a.items - 1) a.s.now (a.at + 1) c.read_expression.ensures c.in-To-read_expression.is), tt)
+    (omega (arith, left-falls (a.items - 1) a.s.now (a.at + 1) c.read_expression.ensures c.in-To.is), tt)
 
-pub returns-in-To : goal.returns-in-To
-returns-in-To t c =
+pub returns-in-Some : goal.returns-in-Some
+returns-in-Some t c =
     let a = c.args in
-    expr-leaf a.items a.s.now a.at leaf-item (omega arith) c.read_item.ensures (omega arith) c.in-To.is
+    expr-leaf a.items a.s.now a.at leaf-item (omega arith) c.read_item.ensures (omega arith) c.in-Some.is
 
 pub returns-in-7 : goal.returns-in-7
 returns-in-7 t c = let a = c.args in expr-always a.items a.s.now a.at (omega arith) (omega arith)
 
-pub returns-in-To-read_item : goal.returns-in-To-read_item
-returns-in-To-read_item t c =
+pub returns-in-Some-read_item : goal.returns-in-Some-read_item
+returns-in-Some-read_item t c =
     let a = c.args in
-    expr-leaf a.items a.s.now a.at count-item (omega arith) c.read_item-in-8.ensures (omega arith) c.in-To-read_item.is
+    expr-leaf a.items a.s.now a.at count-item (omega arith) c.read_item-in-8.ensures (omega arith) c.in-Some-read_item.is
 
-pub returns-in-To-read_expression : goal.returns-in-To-read_expression
-returns-in-To-read_expression t c =
+pub returns-in-To : goal.returns-in-To
+returns-in-To t c =
     let a = c.args in
     expr-both a.items a.s.now a.at c.read_expression-in-4.result (omega arith) (omega arith) (omega arith)
-    c.read_expression.ensures c.in-To-read_expression.is c.read_expression-in-4.ensures
+    c.read_expression.ensures c.in-To.is c.read_expression-in-4.ensures
 
 pub returns-in_default : goal.returns-in_default
 returns-in_default t c = let a = c.args in expr-no-kind a.items a.s.now a.at (λ low high. omega arith)

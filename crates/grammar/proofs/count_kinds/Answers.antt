@@ -32,8 +32,8 @@ loop-n-preserved c =
     let s = c.args.s.now in
     let n = c.loop-n.n in
     let i = c.loop-n.invariant in
-    let found = rw c.in-To.is at c.read_item.ensures in
-    let place : 5 * (n + 1) ≡ c.in-To.field-0 = omega (arith, (item-ends 1 4 s (5 * n) c.in-To.field-0 found.1 found.3).0) in
+    let found = rw c.in-Some.is at c.read_item.ensures in
+    let place : 5 * (n + 1) ≡ c.in-Some.field-0 = omega (arith, (item-ends 1 4 s (5 * n) c.in-Some.field-0 found.1 found.3).0) in
     (i.0 ++ (found.0 ∷ []), simp length-append (omega arith), rw place (so-far-step (item 1 4) kinds_limit s i.0 (drop (5 * n) s) (omega arith) found.1 i.2), omega arith)
 
 pub returns : goal.returns

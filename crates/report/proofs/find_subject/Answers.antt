@@ -8,13 +8,13 @@ use Rattle.format.proofs.WalkLaws.{walk_end}
 use Rattle.records.proofs.Steps.{Step, step, stop}
 use Rattle.evaluate.specs.Seen.{log_in, record_in}
 use Rattle.report.proofs.Sought.{found_here, found_after}
-use Rattle.report.proofs.find_subject.Goals.{In-To}
+use Rattle.report.proofs.find_subject.Goals.{In-Some}
 use Rattle.report.proofs.find_subject.Goals as goal
 
 -- the step that a turn takes
-here : (c : In-To) → let a = c.args in
-    Step (terms_of a.terms.now) a.log.now c.loop-at.at c.in-To.end
-here c = step _ _ _ c.in-To.is c.read_record.ensures
+here : (c : In-Some) → let a = c.args in
+    Step (terms_of a.terms.now) a.log.now c.loop-at.at c.in-Some.end
+here c = step _ _ _ c.in-Some.is c.read_record.ensures
 
 pub loop-at-init : goal.loop-at-init
 unfolding subject_of log_in
@@ -35,15 +35,15 @@ is_sought-requires c = record { read = c.requires; stands = (here c).stands }
 pub returns-then-is_sought : goal.returns-then-is_sought
 unfolding record_in
 returns-then-is_sought c =
-    (c.loop-at.invariant ∙ found_here (here (goal.at.returns-then-is_sought c).In-To) _ c.is_sought.ensures c.if-is_sought.true, (here (goal.at.returns-then-is_sought c).In-To).stands)
+    (c.loop-at.invariant ∙ found_here (here (goal.at.returns-then-is_sought c).In-Some) _ c.is_sought.ensures c.if-is_sought.true, (here (goal.at.returns-then-is_sought c).In-Some).stands)
 
 pub loop-at-smaller : goal.loop-at-smaller
-loop-at-smaller c = omega (arith, (here (goal.at.loop-at-smaller c).In-To).stamped)
+loop-at-smaller c = omega (arith, (here (goal.at.loop-at-smaller c).In-Some).stamped)
 
 pub loop-at-preserved : goal.loop-at-preserved
 unfolding record_in
 loop-at-preserved c =
-    c.loop-at.invariant ∙ found_after (here (goal.at.loop-at-preserved c).In-To) _ c.is_sought.ensures c.if-is_sought.false
+    c.loop-at.invariant ∙ found_after (here (goal.at.loop-at-preserved c).In-Some) _ c.is_sought.ensures c.if-is_sought.false
 
 pub returns : goal.returns
 unfolding find

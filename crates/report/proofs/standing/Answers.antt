@@ -11,13 +11,13 @@ use Rattle.format.specs.Records.{value_width}
 use Rattle.calls.specs.Calls.{Check, refusal, log_checks}
 use Rattle.calls.proofs.RefusalLaws.{LogAccepted}
 use Rattle.terms.proofs.Faults.{schemas_count}
-use Rattle.index.specs.declared.Place.TheVariants.{At}
+use Rattle.std.specs.Prelude.{Option, Some, None}
 use Rattle.index.specs.Chains.{Ready}
 use Rattle.index.proofs.Links.{table_empty}
 use Rattle.event_log.proofs.Checks.{used-inside, log-kept}
 use Rattle.report.specs.Shown.{FoundAt}
 use Rattle.report.proofs.Sought.{standing-refused, standing-past, standing-nobody, standing-shown}
-use Rattle.report.proofs.standing.Goals.{After-schema_count, Else-schema_count-schema, In-At, In_default}
+use Rattle.report.proofs.standing.Goals.{After-schema_count, Else-schema_count-schema, In-Some, In_default}
 use Rattle.report.proofs.standing.Goals as goal
 
 -- the log is accepted: what comes after it decides
@@ -44,9 +44,9 @@ known : (c : Else-schema_count-schema) → let a = c.args in a.schema < length (
 known c = omega (arith, there c, schemas_count c.args.terms.now)
 
 -- the subject that is found
-found : (c : In-At) → let a = c.args in
-    FoundAt a.terms.now (take a.used a.log.now) a.schema a.key a.moment (At c.in-At.subject)
-found c = rw c.in-At.is at c.find_subject.ensures
+found : (c : In-Some) → let a = c.args in
+    FoundAt a.terms.now (take a.used a.log.now) a.schema a.key a.moment (Some c.in-Some.subject)
+found c = rw c.in-Some.is at c.find_subject.ensures
 
 pub check_log_under-requires : goal.check_log_under-requires
 check_log_under-requires c = record { laid_out = c.read_layout-layout.ensures; empty = table_empty }
@@ -80,9 +80,9 @@ returns-in_default-find_subject c =
     (rw c.in_default-find_subject.is at c.find_subject.ensures)
 
 pub entries_of-requires : goal.entries_of-requires
-entries_of-requires c = record { ready = ready (goal.at.entries_of-requires c).In_default; schema_in_bounds = there (goal.at.entries_of-requires c).Else-schema_count-schema; stands = (found (goal.at.entries_of-requires c).In-At).1 }
+entries_of-requires c = record { ready = ready (goal.at.entries_of-requires c).In_default; schema_in_bounds = there (goal.at.entries_of-requires c).Else-schema_count-schema; stands = (found (goal.at.entries_of-requires c).In-Some).1 }
 
 pub returns : goal.returns
 returns c =
     let a = c.args in
-    standing-shown a.terms.now a.log.now a.used a.schema a.key a.moment (kept (goal.at.returns c).In_default).1 (known (goal.at.returns c).Else-schema_count-schema) _ (found (goal.at.returns c).In-At) c.entries_of.ensures
+    standing-shown a.terms.now a.log.now a.used a.schema a.key a.moment (kept (goal.at.returns c).In_default).1 (known (goal.at.returns c).Else-schema_count-schema) _ (found (goal.at.returns c).In-Some) c.entries_of.ensures

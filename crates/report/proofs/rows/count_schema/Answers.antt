@@ -8,13 +8,13 @@ use Rattle.format.specs.Records.{value_width}
 use Rattle.format.proofs.WalkLaws.{walk_end}
 use Rattle.records.proofs.Steps.{Step, step, stop}
 use Rattle.report.proofs.RowSteps.{rows_step, rows_none}
-use Rattle.report.proofs.rows.count_schema.Goals.{In-To}
+use Rattle.report.proofs.rows.count_schema.Goals.{In-Some}
 use Rattle.report.proofs.rows.count_schema.Goals as goal
 
 -- the step that a turn takes
-here : (c : In-To) → let a = c.args in
-    Step (terms_of a.terms.now) a.log.now c.loop-at.at c.in-To.end
-here c = step _ _ _ c.in-To.is c.read_record.ensures
+here : (c : In-Some) → let a = c.args in
+    Step (terms_of a.terms.now) a.log.now c.loop-at.at c.in-Some.end
+here c = step _ _ _ c.in-Some.is c.read_record.ensures
 
 pub loop-at-init : goal.loop-at-init
 loop-at-init c = (zero-add _, omega arith, omega arith)
@@ -35,13 +35,13 @@ pub overflow_add-count : goal.overflow_add-count
 overflow_add-count c = omega (arith, c.requires.ready.indexed.short)
 
 pub loop-at-smaller : goal.loop-at-smaller
-loop-at-smaller c = omega (arith, (here (goal.at.loop-at-smaller c).In-To).stamped)
+loop-at-smaller c = omega (arith, (here (goal.at.loop-at-smaller c).In-Some).stamped)
 
 pub loop-at-preserved : goal.loop-at-preserved
 loop-at-preserved c =
     let a = c.args in
-    let all = simp length-append at (ap length (rows_step a.terms.now a.log.now a.schema a.moment c.loop-at.at (here (goal.at.loop-at-preserved c).In-To))) in
-    (omega (arith, all, c.count_record-count.ensures.0, c.loop-at.invariant.0), omega (arith, (here (goal.at.loop-at-preserved c).In-To).stamped), (here (goal.at.loop-at-preserved c).In-To).inside)
+    let all = simp length-append at (ap length (rows_step a.terms.now a.log.now a.schema a.moment c.loop-at.at (here (goal.at.loop-at-preserved c).In-Some))) in
+    (omega (arith, all, c.count_record-count.ensures.0, c.loop-at.invariant.0), omega (arith, (here (goal.at.loop-at-preserved c).In-Some).stamped), (here (goal.at.loop-at-preserved c).In-Some).inside)
 
 pub returns : goal.returns
 returns c =
