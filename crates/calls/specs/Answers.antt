@@ -1,15 +1,7 @@
 -- What each case of the answers stands for: document 01, 'Calls', the table and the paragraph after it. Assumes nothing: these are definitions.
-use Rattle.std.specs.Prelude.{ℕ, ◌+◌, ◌*◌, ◌/◌, ◌%◌}
+use Rattle.std.specs.Prelude.{ℕ, ◌+◌, ◌*◌, ◌/◌, ◌%◌, Result, Ok, Err}
 use Rattle.calls.specs.declared.Refusal.{Refusal}
 use Rattle.calls.specs.declared.Refusal.TheVariants.{TermsTooLong, BrokenGrammar, FieldOutOfRange, CitationTooHigh, NothingShared, UsedTooLong, BrokenRecord, StampFalls, KeyRepeats, PageTooShort, NotOneRecord, StampTooLow, KeyPresent, NoRoom, NoSchema, NoSubject}
-use Rattle.calls.specs.declared.Checked.{Checked}
-use Rattle.calls.specs.declared.Checked.TheVariants as checked_case
-use Rattle.calls.specs.declared.Appended.{Appended}
-use Rattle.calls.specs.declared.Appended.TheVariants as appended_case
-use Rattle.calls.specs.declared.Reported.{Reported}
-use Rattle.calls.specs.declared.Reported.TheVariants as reported_case
-use Rattle.calls.specs.declared.Standing.{Standing}
-use Rattle.calls.specs.declared.Standing.TheVariants as standing_case
 use Rattle.meaning.specs.declared.Entries.{Entries}
 use Rattle.meaning.specs.Rows.{not_yet}
 
@@ -47,24 +39,19 @@ pub record StandingAnswer : Type 0 where
   pub entries : Entries
 
 -- calls 1 and 2 count nothing (after the table)
-unfoldable pub checked_answer : Checked → Answer
-checked_answer checked_case.Accepted = record { number = 0; value = 0 }
-checked_answer (checked_case.Refused x) = record { number = refusal_number x; value = 0 }
+unfoldable pub checked_answer : Result (Unit {0}) Refusal → Answer
+checked_answer (Ok _) = record { number = 0; value = 0 }
+checked_answer (Err x) = record { number = refusal_number x; value = 0 }
 
--- an append gives a length (call 3)
-unfoldable pub appended_answer : Appended → Answer
-appended_answer (appended_case.Length n) = record { number = 0; value = n }
-appended_answer (appended_case.Refused x) = record { number = refusal_number x; value = 0 }
-
--- a report gives a count (call 4)
-unfoldable pub reported_answer : Reported → Answer
-reported_answer (reported_case.Count n) = record { number = 0; value = n }
-reported_answer (reported_case.Refused x) = record { number = refusal_number x; value = 0 }
+-- an append gives a length, a report a count (calls 3 and 4)
+unfoldable pub counted_answer : Result ℕ Refusal → Answer
+counted_answer (Ok n) = record { number = 0; value = n }
+counted_answer (Err x) = record { number = refusal_number x; value = 0 }
 
 -- a standing gives entries (call 5)
-unfoldable pub standing_answer : Standing → StandingAnswer
-standing_answer (standing_case.Shown e) = record { number = 0; entries = e }
-standing_answer (standing_case.Refused x) = record { number = refusal_number x; entries = not_yet }
+unfoldable pub standing_answer : Result Entries Refusal → StandingAnswer
+standing_answer (Ok e) = record { number = 0; entries = e }
+standing_answer (Err x) = record { number = refusal_number x; entries = not_yet }
 
 -- the answer as the library service gets it, in 64 bits (calls, last sentence)
 unfoldable pub packed : Answer → ℕ

@@ -1,13 +1,11 @@
-// What the calls answer. No call stands here.
+// Why the calls refuse: what they answer is a `Result` with this error. No call stands here.
 #![tactic(auto)]
 
 ghost use Rattle.std.specs.Prelude.{◌≡◌};
 ghost use Rattle.calls.specs.Answers.{refusal_number};
 
-use meaning::Entries;
-
 // Why a call is refused, in the order of the table.
-#[derive(Clone, Copy)]
+#[derive(Clone, Copy, Debug, PartialEq, Eq)]
 pub enum Refusal {
     TermsTooLong,
     BrokenGrammar,
@@ -51,32 +49,4 @@ impl Refusal {
             Refusal::NoSubject => 16,
         }
     }
-}
-
-// What a check answers.
-#[derive(Clone, Copy)]
-pub enum Checked {
-    Accepted,
-    Refused(Refusal),
-}
-
-// What an append answers: the new used length.
-#[derive(Clone, Copy)]
-pub enum Appended {
-    Length(usize),
-    Refused(Refusal),
-}
-
-// What a report answers: how many rows it wrote.
-#[derive(Clone, Copy)]
-pub enum Reported {
-    Count(usize),
-    Refused(Refusal),
-}
-
-// What a standing answers.
-#[derive(Clone, Copy)]
-pub enum Standing {
-    Shown(Entries),
-    Refused(Refusal),
 }

@@ -1,7 +1,7 @@
 // Prints what the calls answer.
 ghost use Rattle.std.specs.Prelude.{◌≤◌, length};
 
-use calls::{Appended, Checked, Refusal, Reported, Standing};
+use calls::Refusal;
 use console::{STDOUT, say, say_next, say_refusal, say_rows};
 use grammar::byte_at;
 use meaning::{Entries, Time};
@@ -22,12 +22,12 @@ pub(crate) fn show_bad() {
 }
 
 // Prints the answer of call 1 or 2.
-pub(crate) fn show_checked(checked: Checked) {
+pub(crate) fn show_checked(checked: Result<(), Refusal>) {
     match checked {
-        Checked::Accepted => {
+        Ok(()) => {
             say(b": accepted\n");
         }
-        Checked::Refused(refusal) => {
+        Err(refusal) => {
             show_refusal(refusal);
         }
     }
@@ -57,11 +57,11 @@ fn show_page(page: &[u8], from: usize)
 }
 
 // Prints the answer of call 4, the rows that are on the page, and whether anything else on it has been written. The place behind the rows.
-pub(crate) fn show_reported(reported: Reported, page: &[u8]) -> usize
+pub(crate) fn show_reported(reported: Result<usize, Refusal>, page: &[u8]) -> usize
     ensures { result ≤ length page.now }
 {
     match reported {
-        Reported::Count(count) => {
+        Ok(count) => {
             say(b":");
             say_next(count as u64);
             say(b" rows\n");
@@ -69,7 +69,7 @@ pub(crate) fn show_reported(reported: Reported, page: &[u8]) -> usize
             show_page(page, end);
             end
         }
-        Reported::Refused(refusal) => {
+        Err(refusal) => {
             show_refusal(refusal);
             show_page(page, 0);
             0
@@ -129,9 +129,9 @@ fn show_log(before: &[u8], log: &[u8], from: usize, to: usize) {
 
 // Prints the answer of call 3, the bytes that are put behind the used ones, and whether any other byte of the buffer has changed. The used
 // length that goes on.
-pub(crate) fn show_appended(appended: Appended, used: usize, before: &[u8], log: &[u8]) -> usize {
+pub(crate) fn show_appended(appended: Result<usize, Refusal>, used: usize, before: &[u8], log: &[u8]) -> usize {
     match appended {
-        Appended::Length(length) => {
+        Ok(length) => {
             say(b": length");
             say_next(length as u64);
             say(b"\n");
@@ -139,7 +139,7 @@ pub(crate) fn show_appended(appended: Appended, used: usize, before: &[u8], log:
             show_log(before, log, used, length);
             length
         }
-        Appended::Refused(refusal) => {
+        Err(refusal) => {
             show_refusal(refusal);
             show_log(before, log, 0, 0);
             used
@@ -176,12 +176,12 @@ fn show_entries(entries: Entries) {
 }
 
 // Prints the answer of call 5.
-pub(crate) fn show_standing(standing: Standing) {
+pub(crate) fn show_standing(standing: Result<Entries, Refusal>) {
     match standing {
-        Standing::Shown(entries) => {
+        Ok(entries) => {
             show_entries(entries);
         }
-        Standing::Refused(refusal) => {
+        Err(refusal) => {
             show_refusal(refusal);
         }
     }

@@ -1,7 +1,7 @@
 // What a call answered and left in memory, held to what the second implementation did.
 ghost use Rattle.std.specs.Prelude.{◌<◌};
 
-use calls::{Appended, Checked, Reported, Standing};
+use calls::Refusal;
 use grammar::u32_at;
 use meaning::{Entries, Time};
 
@@ -28,32 +28,32 @@ fn same_answer(head: &[u8], place: u8, refusal: u8, value: usize) -> bool
 }
 
 // Calls 1 and 2: whether the head has their number at a place.
-pub(crate) fn same_checked(head: &[u8], place: u8, checked: Checked) -> bool {
+pub(crate) fn same_checked(head: &[u8], place: u8, checked: Result<(), Refusal>) -> bool {
     match checked {
-        Checked::Accepted => number(head, place) == 0,
-        Checked::Refused(refusal) => number(head, place) == refusal.number() as u32,
+        Ok(()) => number(head, place) == 0,
+        Err(refusal) => number(head, place) == refusal.number() as u32,
     }
 }
 
 // Call 3: its answer, and each byte of the buffer.
-pub(crate) fn same_appended(head: &[u8], appended: Appended, log: &[u8], after: &[u8]) -> bool {
+pub(crate) fn same_appended(head: &[u8], appended: Result<usize, Refusal>, log: &[u8], after: &[u8]) -> bool {
     if !check::same(log, after) {
         return false;
     }
     match appended {
-        Appended::Length(length) => same_answer(head, 10, 0, length),
-        Appended::Refused(refusal) => same_answer(head, 10, refusal.number(), 0),
+        Ok(length) => same_answer(head, 10, 0, length),
+        Err(refusal) => same_answer(head, 10, refusal.number(), 0),
     }
 }
 
 // Call 4: its answer, and each byte of the page.
-pub(crate) fn same_reported(head: &[u8], reported: Reported, page: &[u8], after: &[u8]) -> bool {
+pub(crate) fn same_reported(head: &[u8], reported: Result<usize, Refusal>, page: &[u8], after: &[u8]) -> bool {
     if !check::same(page, after) {
         return false;
     }
     match reported {
-        Reported::Count(count) => same_answer(head, 12, 0, count),
-        Reported::Refused(refusal) => same_answer(head, 12, refusal.number(), 0),
+        Ok(count) => same_answer(head, 12, 0, count),
+        Err(refusal) => same_answer(head, 12, refusal.number(), 0),
     }
 }
 
@@ -80,10 +80,10 @@ fn same_entries(head: &[u8], entries: Entries) -> bool {
 }
 
 // Call 5: its number and its entries, all not yet with a refusal.
-pub(crate) fn same_standing(head: &[u8], standing: Standing) -> bool {
+pub(crate) fn same_standing(head: &[u8], standing: Result<Entries, Refusal>) -> bool {
     match standing {
-        Standing::Shown(entries) => number(head, 14) == 0 && same_entries(head, entries),
-        Standing::Refused(refusal) => {
+        Ok(entries) => number(head, 14) == 0 && same_entries(head, entries),
+        Err(refusal) => {
             let nothing = Entries {
                 created: Time::Never,
                 detached: Time::Never,

@@ -1,10 +1,9 @@
 -- What a reader finds at a place of bytes, told by the place where it ends. The readers are the model's. Assumes nothing: these are definitions.
-use Rattle.std.specs.Prelude.{ℕ, ◌+◌, ◌≤◌, ◌<◌, ◌≡◌, List, length, drop}
+use Rattle.std.specs.Prelude.{ℕ, ◌+◌, ◌≤◌, ◌<◌, ◌≡◌, List, length, drop, Option, Some, None}
 use Rattle.std.proofs.Math.Option.{none, some}
 use Rattle.meaning.specs.Terms.{Expr}
 use Rattle.format.specs.Bytes.{Reader}
 use Rattle.format.specs.Grammar.{size, read_expr}
-use Rattle.std.specs.Prelude.{Option, Some, None}
 use Rattle.grammar.specs.declared.ExpressionReading.{ExpressionReading}
 use Rattle.grammar.specs.declared.ExpressionReading.TheVariants as expression
 

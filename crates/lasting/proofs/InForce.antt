@@ -12,7 +12,7 @@ use contract.Lifetimes.{Lfts}
 use denote.Triple.Clauses.{AtExit}
 use borrow.Fn.Kinds.{Dens, ended_of}
 use Rattle.format.specs.Records.{value_width}
-use Rattle.calls.specs.Answers.{Answer, appended_answer, reported_answer, unpacked}
+use Rattle.calls.specs.Answers.{Answer, counted_answer, unpacked}
 use Rattle.calls.specs.Calls.{Outcome, outcome, append, report, served}
 use Rattle.calls.specs.Lasting.{Accepted, HeldLog, held_after, after_append, after_appends, NoneBefore, report_on}
 use Rattle.calls.proofs.Lasts.{report-lasts, alike_same}
@@ -109,8 +109,8 @@ report-by-model A contract answer_of says terms held m page o made =
 pub in-force : CallsLast AppendMade ReportMade
 in-force =
     calls_last AppendMade ReportMade
-    (append-by-model _ append_reads.Learnt appended_answer (λ κs a r s says. says))
-    (report-by-model _ report_reads.Learnt reported_answer (λ κs a r s says. says))
+    (append-by-model _ append_reads.Learnt counted_answer (λ κs a r s says. says))
+    (report-by-model _ report_reads.Learnt counted_answer (λ κs a r s says. says))
 
 -- a number that is split into an outcome's answer, and the bytes served with it, are that outcome
 served-back : (n : ℕ) (left : List ℕ) (o : Outcome) → (n, left) ≡ served o → unpacked n ≡ o.answer → outcome (unpacked n) left ≡ o

@@ -7,10 +7,9 @@ use mathlib.Core.List.{List, [], ◌∷◌, ◌++◌}
 use denote.MutBor.{MutBor}
 use denote.Ref.{Bor}
 use Rattle.calls.specs.declared.Refusal.TheVariants.{StampTooLow}
-use Rattle.calls.specs.declared.Appended.TheVariants as appended_case
-use Rattle.calls.specs.declared.Reported.TheVariants as reported_case
+use Rattle.std.specs.Prelude.{Ok, Err}
 use Rattle.format.specs.Records.{value_width}
-use Rattle.calls.specs.Answers.{Answer, appended_answer, reported_answer, unpacked}
+use Rattle.calls.specs.Answers.{Answer, counted_answer, unpacked}
 use Rattle.calls.specs.Calls.{Outcome}
 use Rattle.calls.specs.Lasting.{HeldLog, Remains, SameReport}
 use Rattle.calls.proofs.Computes.{computes}
@@ -113,13 +112,13 @@ report-by A contract answer_of held m page result outcome ensured answered = rec
 pub made : Tried AppendMade ReportMade
 unfolding computes held_at_end
 made = record {
-  given_made = report-by _ report_reads.Learnt reported_answer held 45 (rest 54) (reported_case.Count 2) given refl refl;
+  given_made = report-by _ report_reads.Learnt counted_answer held 45 (rest 54) (Ok 2) given refl refl;
   appends-made = (
-    append-by _ append_reads.Learnt appended_answer held (writing 44 3) (appended_case.Refused StampTooLow) _ refl refl,
-    (append-by _ append_reads.Learnt appended_answer held (writing 45 3) (appended_case.Length 69) _ refl refl, tt),
+    append-by _ append_reads.Learnt counted_answer held (writing 44 3) (Err StampTooLow) _ refl refl,
+    (append-by _ append_reads.Learnt counted_answer held (writing 45 3) (Ok 69) _ refl refl, tt),
   );
-  later-made = report-by _ report_reads.Learnt reported_answer (held_at_end held calls) 46 (rest 60) (reported_case.Count 3) later refl refl;
-  other-made = report-by _ report_reads.Learnt reported_answer other 45 (rest 40) (reported_case.Count 2) of_other refl refl;
+  later-made = report-by _ report_reads.Learnt counted_answer (held_at_end held calls) 46 (rest 60) (Ok 3) later refl refl;
+  other-made = report-by _ report_reads.Learnt counted_answer other 45 (rest 40) (Ok 2) of_other refl refl;
 }
 
 -- calls of `service`: 51,539,607,552 is 12 times 4,294,967,296

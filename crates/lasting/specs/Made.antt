@@ -4,7 +4,7 @@ use Rattle.std.specs.Prelude.{ℕ, ◌≡◌, List}
 use contract.Lifetimes.{Lfts}
 use denote.Triple.Clauses.{AtExit}
 use borrow.Fn.Kinds.{Dens, ended_of}
-use Rattle.calls.specs.Answers.{Answer, appended_answer, reported_answer, unpacked}
+use Rattle.calls.specs.Answers.{Answer, counted_answer, unpacked}
 use Rattle.calls.specs.Calls.{Outcome}
 use Rattle.calls.specs.Lasting.{HeldLog}
 use Rattle.append.proofs.append.Kinds as append_kinds
@@ -77,11 +77,11 @@ pub record ReportBy (A : Type 0) (contract : ReportContract A) (answer_of : A �
 
 -- calls of `append::append`
 abbrev pub AppendMade : AppendRelation
-AppendMade = AppendBy _ append_reads.Learnt appended_answer
+AppendMade = AppendBy _ append_reads.Learnt counted_answer
 
 -- calls of `report::report`
 abbrev pub ReportMade : ReportRelation
-ReportMade = ReportBy _ report_reads.Learnt reported_answer
+ReportMade = ReportBy _ report_reads.Learnt counted_answer
 
 -- calls of `service::agreements_append`, which the export of that name calls
 abbrev pub AppendServed : AppendRelation

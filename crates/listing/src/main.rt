@@ -3,7 +3,7 @@
 
 ghost use Rattle.std.specs.Prelude.{◌≡◌, length};
 
-use calls::Reported;
+use calls::Refusal;
 use console::{at_end, fill, say, say_refusal, say_rows};
 use event_log::LOG_LIMIT;
 use grammar::u32_at;
@@ -17,12 +17,12 @@ const HEAD_LENGTH: usize = 12;
 const PAGE_LENGTH: usize = 65520;
 
 // Prints a report's answer: its rows or its refusal.
-fn list(reported: Reported, page: &[u8]) {
+fn list(reported: Result<usize, Refusal>, page: &[u8]) {
     match reported {
-        Reported::Count(count) => {
+        Ok(count) => {
             say_rows(b"", page, count);
         }
-        Reported::Refused(refusal) => {
+        Err(refusal) => {
             say_refusal(refusal);
         }
     }

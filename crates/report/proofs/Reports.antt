@@ -11,11 +11,9 @@ use lib.Dec.{ltb}
 use lib.ListN.{length, take}
 use Rattle.calls.specs.declared.Refusal.{Refusal}
 use Rattle.calls.specs.declared.Refusal.TheVariants.{PageTooShort}
-use Rattle.calls.specs.declared.Checked.{Checked}
-use Rattle.calls.specs.declared.Checked.TheVariants as checked_case
-use Rattle.calls.specs.declared.Reported.TheVariants as reported_case
+use Rattle.std.specs.Prelude.{Result, Ok, Err}
 use Rattle.format.specs.Records.{value_width, row_length}
-use Rattle.calls.specs.Answers.{checked_answer, reported_answer}
+use Rattle.calls.specs.Answers.{checked_answer, counted_answer}
 use Rattle.calls.specs.Calls.{Check, refusal, log_checks, page_too_short, page_checks, check_log, outcome, unless_refused, on_page, rows_of, report}
 use Rattle.calls.proofs.WriteLaws.{refused-outcome}
 use Rattle.event_log.proofs.Checks.{log-refused}
@@ -24,20 +22,20 @@ use Rattle.report.proofs.RowSteps.{all-rows}
 
 module _ (terms log : List ℕ) (used m : ℕ) (page : List ℕ) where
   -- the refusals of call 2 come first
-  pub report-refused : {found : Checked} {x : Refusal} → found ≡ checked_case.Refused x → checked_answer found ≡ check_log value_width terms log used
-      → outcome (reported_answer (reported_case.Refused x)) page ≡ report value_width terms log used m page
-  unfolding reported_answer report on_page
+  pub report-refused : {found : Result (Unit {0}) Refusal} {x : Refusal} → found ≡ Err x → checked_answer found ≡ check_log value_width terms log used
+      → outcome (counted_answer (Err x)) page ≡ report value_width terms log used m page
+  unfolding counted_answer report on_page
   report-refused {found} {x} is e = refused-outcome x (log-refused terms log used is e (page_checks value_width (rows_of value_width terms log used m) page)) page _
 
   module _ (kept : (more : List Check) → refusal (log_checks value_width terms log used ++ more) ≡ refusal more)
       {short : Bool} (measured : short ≡ ltb (length page) (row_length value_width * length (schemas_from terms (take used log) m 0))) where
     -- a page that is too short for the rows
-    pub report-short : short ≡ true → outcome (reported_answer (reported_case.Refused PageTooShort)) page ≡ report value_width terms log used m page
-    unfolding reported_answer report on_page unless_refused page_checks page_too_short refusal
+    pub report-short : short ≡ true → outcome (counted_answer (Err PageTooShort)) page ≡ report value_width terms log used m page
+    unfolding counted_answer report on_page unless_refused page_checks page_too_short refusal
     report-short h = rw (kept, all-rows terms log used m, ← measured, h)
 
     -- one that has room for them
     pub report-written : short ≡ false → {count : ℕ} {left : List ℕ} → (count ≡ length (schemas_from terms (take used log) m 0)) × (left ≡ with_rows page 0 (schemas_from terms (take used log) m 0))
-        → outcome (reported_answer (reported_case.Count count)) left ≡ report value_width terms log used m page
-    unfolding reported_answer report on_page unless_refused page_checks page_too_short refusal with_rows
+        → outcome (counted_answer (Ok count)) left ≡ report value_width terms log used m page
+    unfolding counted_answer report on_page unless_refused page_checks page_too_short refusal with_rows
     report-written h e = rw (kept, all-rows terms log used m, ← measured, h, e.0, e.1)

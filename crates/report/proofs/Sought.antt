@@ -15,9 +15,7 @@ use lib.ListN.{length, take, drop}
 use borrow.Author.Tests.{le-leb, lt-leb, eq-eqb, ne_eqb}
 use Rattle.calls.specs.declared.Refusal.{Refusal}
 use Rattle.calls.specs.declared.Refusal.TheVariants.{NoSchema, NoSubject}
-use Rattle.calls.specs.declared.Checked.{Checked}
-use Rattle.calls.specs.declared.Checked.TheVariants as checked_case
-use Rattle.calls.specs.declared.Standing.TheVariants as standing_case
+use Rattle.std.specs.Prelude.{Result, Ok, Err, Some, None}
 use Rattle.meaning.specs.declared.Entries.{Entries}
 use Rattle.meaning.specs.Terms.{Terms, schema_at}
 use Rattle.meaning.specs.Log.{Record, key_of}
@@ -31,7 +29,6 @@ use Rattle.calls.proofs.AnswerLaws.{refusal-positive}
 use Rattle.calls.proofs.StandingLaws.{refused-entries}
 use Rattle.records.specs.Holds.{record_at}
 use Rattle.records.proofs.Steps.{Step}
-use Rattle.std.specs.Prelude.{Option, Some, None}
 use Rattle.event_log.proofs.Checks.{log-refused}
 use Rattle.evaluate.specs.Seen.{log_in, record_in}
 use Rattle.report.specs.Shown.{entries_in, FoundAt}
@@ -67,25 +64,25 @@ module _ {t : Terms} {log : List ℕ} {at end : ℕ} (here : Step t log at end) 
 
 module _ (terms log : List ℕ) (used schema key m : ℕ) where
   -- the refusals of call 2 come first
-  pub standing-refused : {found : Checked} {x : Refusal} → found ≡ checked_case.Refused x → checked_answer found ≡ check_log value_width terms log used
-      → standing_answer (standing_case.Refused x) ≡ standing value_width terms log used schema key m
+  pub standing-refused : {found : Result (Unit {0}) Refusal} {x : Refusal} → found ≡ Err x → checked_answer found ≡ check_log value_width terms log used
+      → standing_answer (Err x) ≡ standing value_width terms log used schema key m
   unfolding standing_answer standing
   standing-refused {found} {x} is e = rw (log-refused terms log used is e (key_checks value_width terms log used schema key m)) (sym (refused-entries (refusal_number x) _ (refusal-positive x)))
 
   module _ (kept : (more : List Check) → refusal (log_checks value_width terms log used ++ more) ≡ refusal more) where
     -- past the last schema
-    pub standing-past : length (terms_of terms).schemas ≤ schema → standing_answer (standing_case.Refused NoSchema) ≡ standing value_width terms log used schema key m
+    pub standing-past : length (terms_of terms).schemas ≤ schema → standing_answer (Err NoSchema) ≡ standing value_width terms log used schema key m
     unfolding standing_answer standing standing_as key_checks refusal no_schema
     standing-past h = rw (kept, le-leb (length (terms_of terms).schemas) schema h)
 
     module _ (there : schema < length (terms_of terms).schemas) where
       -- no subject was found
-      pub standing-nobody : FoundAt terms (take used log) schema key m None → standing_answer (standing_case.Refused NoSubject) ≡ standing value_width terms log used schema key m
+      pub standing-nobody : FoundAt terms (take used log) schema key m None → standing_answer (Err NoSubject) ≡ standing value_width terms log used schema key m
       unfolding standing_answer standing standing_as key_checks refusal no_schema missing standing_subject log_of log_in
       standing-nobody none = rw (kept, lt-leb (length (terms_of terms).schemas) schema there, none)
 
       -- the entries of the one that was found
       pub standing-shown : (at : ℕ) {e : Entries} → FoundAt terms (take used log) schema key m (Some at) → e ≡ entries_in terms (take used log) at schema m
-          → standing_answer (standing_case.Shown e) ≡ standing value_width terms log used schema key m
+          → standing_answer (Ok e) ≡ standing value_width terms log used schema key m
       unfolding standing_answer standing standing_as key_checks refusal no_schema missing standing_subject log_of log_in entries_in entries_for
       standing-shown at found is = rw (kept, lt-leb (length (terms_of terms).schemas) schema there, found.0, is)

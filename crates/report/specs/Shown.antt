@@ -1,5 +1,5 @@
 -- The rows and entries of what bytes hold, as far as they are counted or written. Assumes nothing: these are definitions.
-use Rattle.std.specs.Prelude.{ℕ, ◌-◌, ◌≡◌, length, drop}
+use Rattle.std.specs.Prelude.{ℕ, ◌-◌, ◌≡◌, length, drop, Option, Some, None}
 use mathlib.Core.List.{List, flat_map}
 use Rattle.std.proofs.Math.Option.{none, some}
 use Rattle.meaning.specs.declared.Stage.{Stage}
@@ -11,7 +11,6 @@ use Rattle.format.specs.Bytes.{written}
 use Rattle.format.specs.Fields.{terms_of}
 use Rattle.format.specs.Records.{value_width, records_in, row_bytes}
 use Rattle.records.specs.Holds.{Stands}
-use Rattle.std.specs.Prelude.{Option, Some, None}
 use Rattle.evaluate.specs.Seen.{log_in, record_in}
 use Rattle.report.specs.declared.rows.Agreement.{Agreement}
 

@@ -7,16 +7,17 @@ ghost use Rattle.std.specs.Prelude.{◌≡◌};
 ghost use Rattle.meaning.specs.Rows.{is_sought};
 ghost use Rattle.format.specs.Fields.{terms_of};
 ghost use Rattle.format.specs.Records.{value_width};
-ghost use Rattle.calls.specs.Answers.{reported_answer, standing_answer};
+ghost use Rattle.calls.specs.Answers.{counted_answer, standing_answer};
 ghost use Rattle.calls.specs.Calls.{outcome, report, standing};
 ghost use Rattle.table.specs.Table.{Read};
 ghost use Rattle.records.specs.Holds.{Stands};
 ghost use Rattle.evaluate.specs.Seen.{record_in};
 ghost use Rattle.report.specs.Shown.{FoundAt};
 
-use calls::{Checked, Refusal, Reported, Standing};
+use calls::Refusal;
 use event_log::check_log_under;
 use grammar::read_layout;
+use meaning::Entries;
 use records::{key_at, read_record, stamp_at};
 use rows::{Asked, entries_of, too_short, write_rows};
 use table::{TABLE_LENGTH, schema_count, subject_of};
@@ -25,19 +26,23 @@ use table::{TABLE_LENGTH, schema_count, subject_of};
 pub const ROW_LENGTH: usize = 18;
 
 // Call 4: the report at a moment. The checks, then whether the page holds all rows, and only then the rows.
-pub fn report(terms: &[u8], log: &[u8], used: usize, moment: u32, page: &mut [u8]) -> Reported
-    ensures { outcome (reported_answer result) page.new ≡ report value_width terms.now log.now used moment page.old }
+pub fn report(
+    terms: &[u8],
+    log: &[u8],
+    used: usize,
+    moment: u32,
+    page: &mut [u8],
+) -> Result<usize, Refusal>
+    ensures { outcome (counted_answer result) page.new ≡ report value_width terms.now log.now used moment page.old }
 {
     let layout = read_layout(terms);
     let mut table = [0u16; TABLE_LENGTH];
-    if let Checked::Refused(refusal) = check_log_under(terms, layout, log, used, &mut table) {
-        return Reported::Refused(refusal);
-    }
+    check_log_under(terms, layout, log, used, &mut table)?;
     let records = &log[..used];
     if too_short(terms, records, &table, moment, page) {
-        return Reported::Refused(Refusal::PageTooShort);
+        return Err(Refusal::PageTooShort);
     }
-    Reported::Count(write_rows(terms, records, &table, moment, page))
+    Ok(write_rows(terms, records, &table, moment, page))
 }
 
 // Whether the record at a place is the subject that a standing asks for; the kind is compared first.
@@ -96,25 +101,23 @@ pub fn standing(
     schema: usize,
     key: u32,
     moment: u32,
-) -> Standing
+) -> Result<Entries, Refusal>
     ensures { standing_answer result ≡ standing value_width terms.now log.now used schema key moment }
 {
     let layout = read_layout(terms);
     let mut table = [0u16; TABLE_LENGTH];
-    if let Checked::Refused(refusal) = check_log_under(terms, layout, log, used, &mut table) {
-        return Standing::Refused(refusal);
-    }
+    check_log_under(terms, layout, log, used, &mut table)?;
     if schema_count(&table) <= schema {
-        return Standing::Refused(Refusal::NoSchema);
+        return Err(Refusal::NoSchema);
     }
     let records = &log[..used];
     let Some(subject) = find_subject(terms, records, &table, schema, key, moment) else {
-        return Standing::Refused(Refusal::NoSubject);
+        return Err(Refusal::NoSubject);
     };
     let asked = Asked {
         subject,
         schema,
         moment,
     };
-    Standing::Shown(entries_of(terms, records, &table, asked))
+    Ok(entries_of(terms, records, &table, asked))
 }

@@ -6,7 +6,7 @@ ghost use Rattle.format.specs.Records.{value_width};
 ghost use Rattle.calls.specs.Answers.{packed};
 ghost use Rattle.calls.specs.Calls.{check_terms, check_log, append, report, served};
 
-use packing::{pack_appended, pack_checked, pack_reported};
+use packing::{pack_checked, pack_counted};
 
 // Call 1: check terms.
 pub fn agreements_check_terms(terms: &[u8]) -> u64
@@ -26,12 +26,12 @@ pub fn agreements_check_log(terms: &[u8], log: &[u8], used: usize) -> u64
 pub fn agreements_append(terms: &[u8], log: &mut [u8], used: usize, event: &[u8]) -> u64
     ensures { (result, log.new) ≡ served (append value_width terms.now log.old used event.now) }
 {
-    pack_appended(append::append(terms, log, used, event))
+    pack_counted(append::append(terms, log, used, event))
 }
 
 // Call 4: report at a moment.
 pub fn agreements_report(terms: &[u8], log: &[u8], used: usize, moment: u32, page: &mut [u8]) -> u64
     ensures { (result, page.new) ≡ served (report value_width terms.now log.now used moment page.old) }
 {
-    pack_reported(report::report(terms, log, used, moment, page))
+    pack_counted(report::report(terms, log, used, moment, page))
 }

@@ -13,7 +13,7 @@ ghost use Rattle.grammar.specs.Found.{StandsExpr};
 ghost use Rattle.grammar.specs.Places.{Placed, LaidOut};
 ghost use Rattle.terms.specs.Questions.{asked, asked_of_leaf, clause_has, Walks, clauses_have, ClauseAt, schema_has};
 
-use calls::{Checked, Refusal};
+use calls::Refusal;
 use fields::mask_of;
 use grammar::{AND, COUNT, COUNT_BODY, EXCEPT, EXPRESSION_LIMIT, LEAF, LEAF_BODY, Layout, OR};
 use meaning::{Atom, Bound, Event, Stage};
@@ -402,7 +402,7 @@ fn breaks_grammar(terms: &[u8], layout: Layout) -> bool
 }
 
 // Call 1, under a layout of the terms: callers that go on with the layout read it once.
-pub fn check_terms_under(terms: &[u8], layout: Layout) -> Checked
+pub fn check_terms_under(terms: &[u8], layout: Layout) -> Result<(), Refusal>
     requires { LaidOut terms.now layout }
     ensures { checked_answer result ≡ check_terms terms.now }
 {
@@ -411,25 +411,25 @@ pub fn check_terms_under(terms: &[u8], layout: Layout) -> Checked
     let clauses = 3 * layout.schemas;
     let starts = &places[..clauses];
     if TERMS_LIMIT < terms.len() {
-        return Checked::Refused(Refusal::TermsTooLong);
+        return Err(Refusal::TermsTooLong);
     }
     if breaks_grammar(terms, layout) {
-        return Checked::Refused(Refusal::BrokenGrammar);
+        return Err(Refusal::BrokenGrammar);
     }
     if field_wrong(terms, kinds, starts) {
-        return Checked::Refused(Refusal::FieldOutOfRange);
+        return Err(Refusal::FieldOutOfRange);
     }
     if some_schema_has(terms, kinds, starts, Fault::Citation) {
-        return Checked::Refused(Refusal::CitationTooHigh);
+        return Err(Refusal::CitationTooHigh);
     }
     if some_schema_has(terms, kinds, starts, Fault::Unshared) {
-        return Checked::Refused(Refusal::NothingShared);
+        return Err(Refusal::NothingShared);
     }
-    Checked::Accepted
+    Ok(())
 }
 
 // Call 1: check terms.
-pub fn check_terms(terms: &[u8]) -> Checked
+pub fn check_terms(terms: &[u8]) -> Result<(), Refusal>
     ensures { checked_answer result ≡ check_terms terms.now }
 {
     check_terms_under(terms, grammar::read_layout(terms))

@@ -1,11 +1,16 @@
--- `pack_checked` meets its contract: case by case, number and 0. Assumes nothing.
-use Rattle.calls.specs.Answers.{checked_answer}
+-- `pack_checked` meets its contract: a check counts nothing. Assumes nothing.
+use mathlib.Core.Path.{◌≡◌, refl}
+use Rattle.std.specs.Prelude.{ℕ, Result, Ok, Err}
+use Rattle.std.specs.Result.{result_and}
+use Rattle.calls.specs.declared.Refusal.{Refusal}
+use Rattle.calls.specs.Answers.{checked_answer, counted_answer}
 use Rattle.packing.proofs.pack_checked.Goals as goal
 
-pub returns-in-Accepted : goal.returns-in-Accepted
-unfolding checked_answer
-returns-in-Accepted c = rw c.in-Accepted.is c.pack.ensures
+-- an accepted check is answered as a count of none
+nothing-counted : (x : Result (Unit {0}) Refusal) → counted_answer (result_and {U = ℕ} x (Ok 0)) ≡ checked_answer x
+unfolding checked_answer counted_answer
+nothing-counted (Ok _) = refl
+nothing-counted (Err x) = refl
 
-pub returns-in-Refused : goal.returns-in-Refused
-unfolding checked_answer
-returns-in-Refused c = rw (c.in-Refused.is, ← c.number.ensures) c.pack-in-Refused.ensures
+pub returns : goal.returns
+returns c = rw (← nothing-counted c.args.checked, ← c.and.ensures) c.pack_counted.ensures

@@ -5,33 +5,35 @@ use lib.ListN.{take}
 use lib.Seq.{length-take-le}
 use borrow.Author.Tests.{ltb-false}
 use Rattle.format.specs.Records.{value_width}
+use Rattle.std.proofs.lemmas.Result.{err_from_is_err_and}
 use Rattle.calls.specs.Calls.{Check, refusal, log_checks}
 use Rattle.calls.proofs.RefusalLaws.{LogAccepted}
 use Rattle.index.specs.Chains.{Ready}
 use Rattle.index.proofs.Links.{table_empty}
 use Rattle.event_log.proofs.Checks.{used-inside, log-kept}
 use Rattle.report.proofs.Reports.{report-refused, report-short, report-written}
-use Rattle.report.proofs.report.Goals.{In_default}
+use Rattle.report.proofs.report.Goals.{In_ok-check_log_under}
 use Rattle.report.proofs.report.Goals as goal
 
 -- the log is accepted: what comes after it decides
-kept : (c : In_default) → let a = c.args in
+kept : (c : In_ok-check_log_under) → let a = c.args in
     LogAccepted value_width a.terms.now a.log.now a.used
     × ((more : List Check) → refusal (log_checks value_width a.terms.now a.log.now a.used ++ more) ≡ refusal more)
-kept c = log-kept _ _ _ c.in_default.is c.check_log_under.ensures.0
+kept c = log-kept _ _ _ c.in_ok-check_log_under.was c.check_log_under.ensures.answer
 
 -- the table holds the terms and the used bytes of the log
-ready : (c : In_default) → let a = c.args in
+ready : (c : In_ok-check_log_under) → let a = c.args in
     Ready a.terms.now (take a.used a.log.now) c.check_log_under.new.table
-ready c = c.check_log_under.ensures.1 c.in_default.is
+ready c = c.in_ok-check_log_under.ensures.ready
 
 pub check_log_under-requires : goal.check_log_under-requires
 check_log_under-requires c = record { laid_out = c.read_layout-layout.ensures; empty = table_empty }
 
-pub returns-in-Refused : goal.returns-in-Refused
-returns-in-Refused c =
+pub returns-in_err-check_log_under : goal.returns-in_err-check_log_under
+returns-in_err-check_log_under c =
     let a = c.args in
-    report-refused a.terms.now a.log.now a.used a.moment a.page.now c.in-Refused.is c.check_log_under.ensures.0
+    let p = err_from_is_err_and c.from_residual.result c.from_residual.ensures.1 in
+    rw (p.1, p.2) (report-refused a.terms.now a.log.now a.used a.moment a.page.now c.in_err-check_log_under.was c.check_log_under.ensures.answer)
 
 pub slice_bounds-records-end : goal.slice_bounds-records-end
 slice_bounds-records-end c =
@@ -39,18 +41,18 @@ slice_bounds-records-end c =
     sym (length-take-le a.used a.log.now (used-inside a.log.now a.used (kept c).0.used-fits))
 
 pub too_short-requires : goal.too_short-requires
-too_short-requires c = ready (goal.at.too_short-requires c).In_default
+too_short-requires c = ready (goal.at.too_short-requires c).In_ok-check_log_under
 
 pub returns-then-too_short : goal.returns-then-too_short
 returns-then-too_short c =
     let a = c.args in
-    report-short a.terms.now a.log.now a.used a.moment a.page.now (kept (goal.at.returns-then-too_short c).In_default).1 c.too_short.ensures c.if-too_short.true
+    report-short a.terms.now a.log.now a.used a.moment a.page.now (kept (goal.at.returns-then-too_short c).In_ok-check_log_under).1 c.too_short.ensures c.if-too_short.true
 
 pub write_rows-requires : goal.write_rows-requires
 write_rows-requires c =
-    let short = c.too_short.ensures in record { ready = ready (goal.at.write_rows-requires c).In_default; rows_fit = ltb-false _ _ (sym short ∙ c.if-too_short.false) }
+    let short = c.too_short.ensures in record { ready = ready (goal.at.write_rows-requires c).In_ok-check_log_under; rows_fit = ltb-false _ _ (sym short ∙ c.if-too_short.false) }
 
 pub returns : goal.returns
 returns c =
     let a = c.args in
-    report-written a.terms.now a.log.now a.used a.moment a.page.now (kept (goal.at.returns c).In_default).1 c.too_short.ensures c.if-too_short.false c.write_rows.ensures
+    report-written a.terms.now a.log.now a.used a.moment a.page.now (kept (goal.at.returns c).In_ok-check_log_under).1 c.too_short.ensures c.if-too_short.false c.write_rows.ensures

@@ -3,4 +3,4 @@ use Rattle.service.proofs.Serving.{served-as}
 use Rattle.service.proofs.agreements_append.Goals as goal
 
 pub returns : goal.returns
-returns c = served-as c.pack_appended.ensures c.append.ensures
+returns c = served-as c.pack_counted.ensures c.append.ensures

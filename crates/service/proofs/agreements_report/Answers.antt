@@ -3,4 +3,4 @@ use Rattle.service.proofs.Serving.{served-as}
 use Rattle.service.proofs.agreements_report.Goals as goal
 
 pub returns : goal.returns
-returns c = served-as c.pack_reported.ensures c.report.ensures
+returns c = served-as c.pack_counted.ensures c.report.ensures
