@@ -5,7 +5,7 @@ ghost use Rattle.std.specs.Prelude.{◌+◌, ◌≤◌, length};
 
 use calls::Refusal;
 use grammar::{byte_at, u32_at};
-use meaning::{Stage, StageForm};
+use meaning::Stage;
 use report::ROW_LENGTH;
 
 // The number of standard input.
@@ -50,7 +50,7 @@ pub fn say_refusal(refusal: Refusal) {
 
 // Prints the name of the stage that the first byte of a row stands for.
 fn say_stage(form: u8) {
-    let StageForm::Is(stage) = Stage::of_form(form) else {
+    let Ok(stage) = Stage::try_from(form) else {
         say(b"no-stage");
         return;
     };

@@ -9,8 +9,11 @@ ghost use Rattle.format.specs.Grammar.{file_of};
 ghost use Rattle.format.specs.Fields.{norm_type_of, event_of, bound_of, neither, leaf_from, kind_wrong, head_wrong, event_wrong, bound_wrong, leaf_wrong, terms_of};
 ghost use Rattle.fields.specs.Decoded.{event_in, bound_in, OperandsAt, ExpressionAt};
 
-use grammar::{ALWAYS, AND, COUNT, COUNT_BODY, EXCEPT, ExpressionReading, LEAF, LEAF_BODY, OR, byte_at, read_expression, u16_at, u32_at};
-use meaning::{Atom, Bound, CountLeaf, Event, Leaf, NormType, Stage, StageForm};
+use grammar::{
+    ALWAYS, AND, COUNT, COUNT_BODY, EXCEPT, ExpressionReading, LEAF, LEAF_BODY, OR, byte_at,
+    read_expression, u16_at, u32_at,
+};
+use meaning::{Atom, Bound, CountLeaf, Event, Leaf, NormType, Stage};
 
 // The attributes that a mask has room for.
 pub const ATTRIBUTES: u8 = 16;
@@ -107,15 +110,16 @@ pub fn key_of(terms: &[u8], kinds: usize, kind: u8) -> u8
 }
 
 // The event of a form and a number.
+#[tactic(auto, unfolding(format::specs::Fields::event_of, format::specs::Fields::stage_event))]
 fn event_of(form: u8, number: u8) -> EventForm
     ensures { event_in result ≡ event_of form number }
 {
     if form == KIND_FORM {
         return EventForm::Is(Event::Kind(number));
     }
-    match Stage::of_form(form) {
-        StageForm::Is(stage) => EventForm::Is(Event::StageOf(stage, number)),
-        StageForm::NotAStage => EventForm::NotAnEvent,
+    match Stage::try_from(form) {
+        Ok(stage) => EventForm::Is(Event::StageOf(stage, number)),
+        Err(_) => EventForm::NotAnEvent,
     }
 }
 

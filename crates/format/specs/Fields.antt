@@ -1,9 +1,8 @@
 -- The fields of terms: what the bodies stand for, and refusals 3, 4 and 5, each over the whole file.
 -- Document 01, 'Terms and log', 'Terms items' and 'Citation'; refusals 3, 4 and 5 of the table; document 02, wish 1. Assumes nothing: these are definitions.
-use Rattle.std.specs.Prelude.{ℕ, ◌+◌, ◌*◌, Bool, true, false, cond, not, ◌&&◌, ◌||◌, List, [], map, leb, ltb, eqb, length, get_or, drop}
+use Rattle.std.specs.Prelude.{ℕ, ◌+◌, ◌*◌, Bool, true, false, cond, not, ◌&&◌, ◌||◌, List, [], map, leb, ltb, eqb, length, get_or, drop, Option as CodeOption, Some, None}
 use Rattle.std.proofs.Math.Option.{Option, none, some, bind}
-use Rattle.meaning.specs.declared.StageForm.{StageForm}
-use Rattle.meaning.specs.declared.StageForm.TheVariants.{Is, NotAStage}
+use Rattle.meaning.specs.declared.Stage.{Stage}
 use Rattle.meaning.specs.declared.NormType.{NormType}
 use Rattle.meaning.specs.declared.NormType.TheVariants.{Commitment, Authorization, Prohibition, Power}
 use Rattle.meaning.specs.declared.Event.{Event}
@@ -28,9 +27,9 @@ unfoldable pub norm_type_of : ℕ → NormType
 norm_type_of n = cond (eqb n 1) Commitment (cond (eqb n 2) Authorization (cond (eqb n 3) Prohibition Power))
 
 -- a stage's event, if the form names a stage (item 03, forms 1 to 5)
-unfoldable pub stage_event : StageForm → ℕ → Option Event
-stage_event (Is s) number = some (StageOf s number)
-stage_event NotAStage number = none
+unfoldable pub stage_event : CodeOption Stage → ℕ → Option Event
+stage_event (Some s) number = some (StageOf s number)
+stage_event None number = none
 
 -- an event from its form and number (item 03)
 unfoldable pub event_of : ℕ → ℕ → Option Event

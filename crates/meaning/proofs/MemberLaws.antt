@@ -10,7 +10,7 @@ use lib.Dec.{eqb}
 use borrow.Author.Tests.{eqb-true, eqb-false}
 use Rattle.meaning.specs.declared.Stage.{Stage}
 use Rattle.meaning.specs.declared.Stage.TheVariants.{Created, Detached, Expired, Discharged, Violated}
-use Rattle.meaning.specs.declared.StageForm.TheVariants.{Is}
+use Rattle.std.specs.Prelude.{Some}
 use Rattle.meaning.specs.Lists.{numbers_from, any_of, All}
 use Rattle.meaning.specs.Stages.{stages, stage_number, stage_of}
 use Rattle.meaning.proofs.BoolLaws.{or-false}
@@ -82,7 +82,7 @@ stages-mem Discharged = Memᴰ.tail (Memᴰ.tail (Memᴰ.tail (Memᴰ.head refl)
 stages-mem Violated = Memᴰ.tail (Memᴰ.tail (Memᴰ.tail (Memᴰ.tail (Memᴰ.head refl))))
 
 -- a stage is told by its number
-stage-back : (s : Stage) → stage_of (stage_number s) ≡ Is s
+stage-back : (s : Stage) → stage_of (stage_number s) ≡ Some s
 stage-back Created = refl
 stage-back Detached = refl
 stage-back Expired = refl
@@ -90,7 +90,7 @@ stage-back Discharged = refl
 stage-back Violated = refl
 
 pub stage-told : (s t : Stage) → stage_number s ≡ stage_number t → s ≡ t
-stage-told s t e = let same : Is s ≡ Is t = sym (stage-back s) ∙ ap stage_of e ∙ stage-back t in cc
+stage-told s t e = let same : Some s ≡ Some t = sym (stage-back s) ∙ ap stage_of e ∙ stage-back t in cc
 
 -- Nothing stands twice: no element stands again behind itself.
 abbrev pub Distinct : {A : Type 0} → List A → Type 0

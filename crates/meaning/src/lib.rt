@@ -1,60 +1,43 @@
 // The types that the engine's code and its definitions share; those of answers are in `calls`. No call stands here.
 #![tactic(auto)]
 
-ghost use Rattle.std.specs.Prelude.{◌≡◌};
+ghost use Rattle.std.specs.Prelude.{◌≡◌, ok_or};
 ghost use Rattle.meaning.specs.Time.{later_of, earlier_of};
 ghost use Rattle.meaning.specs.Stages.{stage_of, stage_number};
+ghost use Rattle.meaning.specs.Meaning.{and_of, or_of, except_of};
 
-// A minute at which something happens, or none.
-#[derive(Clone, Copy)]
+// A minute at which something happens, or none, which is later than any.
+#[derive(Clone, Copy, Debug, PartialEq, Eq, PartialOrd, Ord)]
 pub enum Time {
     At(u32),
     Never,
 }
 
+#[tactic(auto, unfolding(crate::specs::Time::later_of, crate::specs::Time::earlier_of))]
 impl Time {
     // When both have happened.
     pub fn later_of(self, other: Time) -> Time
         ensures { result ≡ later_of self other }
     {
-        match self {
-            Time::Never => Time::Never,
-            Time::At(a) => match other {
-                Time::Never => Time::Never,
-                Time::At(b) => { if a < b { Time::At(b) } else { Time::At(a) } }
-            },
-        }
+        self.max(other)
     }
 
     // When one of the two has happened.
     pub fn earlier_of(self, other: Time) -> Time
         ensures { result ≡ earlier_of self other }
     {
-        match self {
-            Time::Never => other,
-            Time::At(a) => match other {
-                Time::Never => Time::At(a),
-                Time::At(b) => { if a < b { Time::At(a) } else { Time::At(b) } }
-            },
-        }
+        self.min(other)
     }
 }
 
 // The stages of an agreement.
-#[derive(Clone, Copy)]
+#[derive(Clone, Copy, Debug, PartialEq, Eq)]
 pub enum Stage {
     Created,
     Detached,
     Expired,
     Discharged,
     Violated,
-}
-
-// What a form byte names: a stage, or none.
-#[derive(Clone, Copy)]
-pub enum StageForm {
-    Is(Stage),
-    NotAStage,
 }
 
 impl Stage {
@@ -67,26 +50,36 @@ impl Stage {
     pub const DISCHARGED: u8 = 4;
 
     pub const VIOLATED: u8 = 5;
+}
 
-    // The stage that a form byte names.
-    pub fn of_form(form: u8) -> StageForm
-        ensures { result ≡ stage_of form }
-    {
+// A form byte that names no stage.
+#[derive(Clone, Copy, Debug, PartialEq, Eq)]
+pub struct NotAStage(pub u8);
+
+// The stage that a form byte names.
+impl TryFrom<u8> for Stage {
+    type Error = NotAStage;
+
+    ghost try_from_gives = { λ form answer. answer ≡ ok_or (stage_of form) (record { 0 = form }) };
+
+    fn try_from(form: u8) -> Result<Stage, NotAStage> {
         match form {
-            Stage::CREATED => StageForm::Is(Stage::Created),
-            Stage::DETACHED => StageForm::Is(Stage::Detached),
-            Stage::EXPIRED => StageForm::Is(Stage::Expired),
-            Stage::DISCHARGED => StageForm::Is(Stage::Discharged),
-            Stage::VIOLATED => StageForm::Is(Stage::Violated),
-            _ => StageForm::NotAStage,
+            Stage::CREATED => Ok(Stage::Created),
+            Stage::DETACHED => Ok(Stage::Detached),
+            Stage::EXPIRED => Ok(Stage::Expired),
+            Stage::DISCHARGED => Ok(Stage::Discharged),
+            Stage::VIOLATED => Ok(Stage::Violated),
+            _ => Err(NotAStage(form)),
         }
     }
+}
 
-    // The number that stands for the stage in a form byte and in a row.
-    pub fn number(self) -> u8
-        ensures { result ≡ stage_number self }
-    {
-        match self {
+// The number that stands for a stage in a form byte and in a row.
+impl From<Stage> for u8 {
+    ghost from_gives = { λ stage number. number ≡ stage_number stage };
+
+    fn from(stage: Stage) -> u8 {
+        match stage {
             Stage::Created => Stage::CREATED,
             Stage::Detached => Stage::DETACHED,
             Stage::Expired => Stage::EXPIRED,
@@ -97,7 +90,7 @@ impl Stage {
 }
 
 // The types of norm.
-#[derive(Clone, Copy)]
+#[derive(Clone, Copy, Debug, PartialEq, Eq)]
 pub enum NormType {
     Commitment,
     Authorization,
@@ -106,14 +99,14 @@ pub enum NormType {
 }
 
 // What a leaf or a bound refers to: records of a kind, or a stage of the schema with that number.
-#[derive(Clone, Copy)]
+#[derive(Clone, Copy, Debug, PartialEq, Eq)]
 pub enum Event {
     Kind(u8),
     StageOf(Stage, u8),
 }
 
 // An end of a window: an offset, an event plus or minus an offset, or no end.
-#[derive(Clone, Copy)]
+#[derive(Clone, Copy, Debug, PartialEq, Eq)]
 pub enum Bound {
     Plain(u32),
     Plus(Event, u32),
@@ -122,7 +115,7 @@ pub enum Bound {
 }
 
 // An event that is to happen from the lower bound up to the upper one.
-#[derive(Clone, Copy)]
+#[derive(Clone, Copy, Debug, PartialEq, Eq)]
 pub struct Leaf {
     pub event: Event,
     pub lower: Bound,
@@ -130,7 +123,7 @@ pub struct Leaf {
 }
 
 // More than so many records of a kind, from the lower bound up to the upper one.
-#[derive(Clone, Copy)]
+#[derive(Clone, Copy, Debug, PartialEq, Eq)]
 pub struct CountLeaf {
     pub kind: u8,
     pub threshold: u32,
@@ -139,28 +132,61 @@ pub struct CountLeaf {
 }
 
 // A leaf of an expression: an event that happens in a window, or records that are counted in one.
-#[derive(Clone, Copy)]
+#[derive(Clone, Copy, Debug, PartialEq, Eq)]
 pub enum Atom {
     Happens(Leaf),
     Counts(CountLeaf),
 }
 
-// A bound's value: a minute, past the last one too, or no end.
-#[derive(Clone, Copy)]
+// A bound's value: a minute, past the last one too, or no end, which is later than any.
+#[derive(Clone, Copy, Debug, PartialEq, Eq, PartialOrd, Ord)]
 pub enum Edge {
     Minute(u64),
     Endless,
 }
 
 // When an expression occurs, and when it fails.
-#[derive(Clone, Copy)]
+#[derive(Clone, Copy, Debug, PartialEq, Eq)]
 pub struct Times {
     pub occurs: Time,
     pub fails: Time,
 }
 
+#[tactic(auto, unfolding(crate::specs::Meaning::and_of, crate::specs::Meaning::or_of, crate::specs::Meaning::except_of))]
+impl Times {
+    // Both are needed, one failure is enough.
+    pub fn and(self, other: Times) -> Times
+        ensures { result ≡ and_of self other }
+    {
+        Times {
+            occurs: self.occurs.later_of(other.occurs),
+            fails: self.fails.earlier_of(other.fails),
+        }
+    }
+
+    // One is enough, both have to fail.
+    pub fn or(self, other: Times) -> Times
+        ensures { result ≡ or_of self other }
+    {
+        Times {
+            occurs: self.occurs.earlier_of(other.occurs),
+            fails: self.fails.later_of(other.fails),
+        }
+    }
+
+    // The first has to occur and the other to fail; the first's failure or the other's occurrence ends it.
+    pub fn except(self, other: Times) -> Times
+        ensures { result ≡ except_of self other }
+    {
+        Times {
+            occurs: self.occurs.later_of(other.fails),
+            fails: self.fails.earlier_of(other.occurs),
+        }
+    }
+}
+
 // A row of a report: a stage of a schema's agreement, its subject's key, the parties, and since which minute.
-#[derive(Clone, Copy)]
+#[derive(Clone, Copy, Debug, PartialEq, Eq)]
 pub struct Row {
     pub stage: Stage,
     pub schema: u8,
@@ -171,7 +197,7 @@ pub struct Row {
 }
 
 // The five entries of a standing. Never stands for not yet.
-#[derive(Clone, Copy)]
+#[derive(Clone, Copy, Debug, PartialEq, Eq)]
 pub struct Entries {
     pub created: Time,
     pub detached: Time,

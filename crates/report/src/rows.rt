@@ -218,8 +218,7 @@ fn put_row(page: &mut [u8], at: usize, row: Row)
     requires { at + row_length value_width ≤ length page.old }
     ensures { page.new ≡ written page.old at (row_bytes value_width row) }
 {
-    let stage = row.stage;
-    page[at] = stage.number();
+    page[at] = u8::from(row.stage);
     page[at + 1] = row.schema;
     put_u32(page, at + 2, row.key);
     put_u32(page, at + 2 + VALUE_WIDTH, row.privileged);

@@ -18,9 +18,9 @@ long-2 c = c.put_u32-2.auto.page ∙ (simp length-set at c.put_u32.auto.page)
 long-3 : (c : After-put_u32-3) → length c.put_u32-3.new.page ≡ length c.args.page.now
 long-3 c = c.put_u32-3.auto.page ∙ (c.put_u32-2.auto.page ∙ (simp length-set at c.put_u32.auto.page))
 
-pub number-requires : goal.number-requires
+pub from-requires : goal.from-requires
 unfolding row_length
-number-requires c = search rules
+from-requires c = search rules
 
 pub bounds-page-at : goal.bounds-page-at
 unfolding row_length
@@ -91,4 +91,4 @@ shape_of-page c = c.put_u32-4.auto.page ∙ long-3 (goal.at.shape_of-page c).Aft
 
 pub returns : goal.returns
 returns c =
-    row-by _ _ _ c.requires c.number.ensures c.put_u32.ensures c.put_u32-2.ensures c.put_u32-3.ensures c.put_u32-4.ensures
+    row-by _ _ _ c.requires c.from.ensures c.put_u32.ensures c.put_u32-2.ensures c.put_u32-3.ensures c.put_u32-4.ensures
