@@ -1,5 +1,5 @@
 -- The model's meaning of what bytes hold, for a clause of a rank and the subject at a place of the log. Assumes nothing: these are definitions.
-use Rattle.std.specs.Prelude.{ℕ, ◌*◌, ◌<◌, List, length}
+use Rattle.std.specs.Prelude.{ℕ, ◌*◌, ◌<◌, List, length, Option, Some, None}
 use Rattle.meaning.specs.declared.Time.{Time}
 use Rattle.meaning.specs.declared.Time.TheVariants.{At, Never}
 use Rattle.meaning.specs.declared.Stage.{Stage}
@@ -12,8 +12,7 @@ use Rattle.format.specs.Fields.{terms_of}
 use Rattle.format.specs.Records.{value_width, records_in}
 use Rattle.records.specs.Holds.{Stands, record_at}
 use Rattle.evaluate.specs.declared.Clause.{Clause}
-use Rattle.evaluate.specs.declared.KnownBound.{KnownBound}
-use Rattle.evaluate.specs.declared.KnownBound.TheVariants.{Known, Unknown}
+use Rattle.evaluate.specs.declared.Known.{Known}
 
 -- the records in the bytes of a log
 unfoldable pub log_in : List ℕ → List ℕ → Log
@@ -31,10 +30,10 @@ stage_in terms log subject s j = stage_time (terms_of terms) (log_in terms log) 
 unfoldable pub under : {A : Type 0} → (StageTimes → Terms → Log → Record → A) → List ℕ → List ℕ → ℕ → ℕ → A
 under rule terms log k subject = rule (cited k (stage_time (terms_of terms) (log_in terms log))) (terms_of terms) (log_in terms log) (record_in terms log subject)
 
--- a bound's value and the minute since which it is known; unknown, where there is none
-unfoldable pub known_as : Bound → Time → KnownBound
-known_as bound (At g) = Known (edge_of bound g) g
-known_as bound Never = Unknown
+-- a bound's value and the minute since which it is known, if there is one
+unfoldable pub known_as : Bound → Time → Option Known
+known_as bound (At g) = Some (record { edge = edge_of bound g; since = g })
+known_as bound Never = None
 
 -- a clause of the terms, and a subject that stands in the log
 pub record Posed (terms log : List ℕ) (clause : Clause) : Type 0 where

@@ -20,7 +20,7 @@ use index::{all_of, count_with};
 use meaning::{Entries, Row, Stage, Time};
 use records::{Masked, key_at, read_record, stamp_at, value_of};
 use table::{VALUE_WIDTH, head_at, mask_in, norm_type, schema_count, subject_of};
-use times::{Needed, before, consequent_needs_all, stage_from};
+use times::{ClauseTimes, Needed, before, consequent_needs_all};
 
 // What is asked for: the subject at a place, under a schema, at a moment.
 #[derive(Clone, Copy)]
@@ -67,12 +67,17 @@ pub(crate) fn entries_of(terms: &[u8], log: &[u8], table: &[u16], asked: Asked) 
     let c = clause_times(terms, log, table, create, Needed::Occurrence);
     let r = clause_times(terms, log, table, detach, Needed::Both);
     let u = clause_times(terms, log, table, consequent, needed);
+    let times = ClauseTimes {
+        create: c,
+        detach: r,
+        consequent: u,
+    };
     Entries {
-        created: before(moment, stage_from(Stage::Created, norm, stamp, c, r, u)),
-        detached: before(moment, stage_from(Stage::Detached, norm, stamp, c, r, u)),
-        expired: before(moment, stage_from(Stage::Expired, norm, stamp, c, r, u)),
-        discharged: before(moment, stage_from(Stage::Discharged, norm, stamp, c, r, u)),
-        violated: before(moment, stage_from(Stage::Violated, norm, stamp, c, r, u)),
+        created: before(moment, times.stage_from(Stage::Created, norm, stamp)),
+        detached: before(moment, times.stage_from(Stage::Detached, norm, stamp)),
+        expired: before(moment, times.stage_from(Stage::Expired, norm, stamp)),
+        discharged: before(moment, times.stage_from(Stage::Discharged, norm, stamp)),
+        violated: before(moment, times.stage_from(Stage::Violated, norm, stamp)),
     }
 }
 

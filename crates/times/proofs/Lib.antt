@@ -1,3 +1,2 @@
 -- Proofs over the times of clauses.
 pub mod Needs
-pub mod StageLaws

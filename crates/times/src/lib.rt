@@ -3,7 +3,7 @@
 
 ghost use Rattle.std.specs.Prelude.{◌≡◌, ◌+◌, ◌-◌};
 ghost use Rattle.meaning.specs.Time.{later_of, before};
-ghost use Rattle.meaning.specs.Meaning.{from_edge, before_edge, reached, and_of, or_of, except_of, stage_from};
+ghost use Rattle.meaning.specs.Meaning.{from_edge, before_edge, reached, stage_from};
 ghost use Rattle.times.specs.NeededTimes.{detach_needs, consequent_needs, consequent_needs_all};
 
 use meaning::{Edge, NormType, Stage, Time, Times};
@@ -12,7 +12,7 @@ use meaning::{Edge, NormType, Stage, Time, Times};
 pub const LAST_MINUTE: u64 = 4294967294;
 
 // Which of a clause's two times a stage needs.
-#[derive(Clone, Copy)]
+#[derive(Clone, Copy, Debug, PartialEq, Eq)]
 pub enum Needed {
     Neither,
     Occurrence,
@@ -21,188 +21,110 @@ pub enum Needed {
 }
 
 // A time where it is before a moment, else none.
+#[tactic(auto, unfolding(meaning::specs::Time::before))]
 pub fn before(moment: u32, time: Time) -> Time
     ensures { result ≡ before moment time }
 {
-    let Time::At(minute) = time else {
-        return Time::Never;
-    };
-    if minute < moment {
-        return Time::At(minute);
+    match time {
+        Time::At(minute) if minute < moment => time,
+        _ => Time::Never,
     }
-    Time::Never
 }
 
 // An edge after a minute, by an offset.
 pub fn plus(minute: u32, offset: u32) -> Edge
     ensures { result ≡ Edge.Minute (minute + offset) }
 {
-    Edge::Minute(minute as u64 + offset as u64)
+    Edge::Minute(u64::from(minute) + u64::from(offset))
 }
 
 // An edge before a minute, by an offset; below zero counts as zero.
 pub fn minus(minute: u32, offset: u32) -> Edge
     ensures { result ≡ Edge.Minute (minute - offset) }
 {
-    if minute < offset {
-        return Edge::Minute(0);
-    }
-    Edge::Minute((minute - offset) as u64)
-}
-
-// A time where it is at the lower edge or later, else none.
-fn from_edge(lower: Edge, time: Time) -> Time
-    ensures { result ≡ from_edge lower time }
-{
-    let Edge::Minute(edge) = lower else {
-        return Time::Never;
-    };
-    let Time::At(minute) = time else {
-        return Time::Never;
-    };
-    if edge <= minute as u64 {
-        return Time::At(minute);
-    }
-    Time::Never
-}
-
-// A time where it is before the upper edge, else none.
-fn before_edge(upper: Edge, time: Time) -> Time
-    ensures { result ≡ before_edge upper time }
-{
-    let Edge::Minute(edge) = upper else {
-        return time;
-    };
-    let Time::At(minute) = time else {
-        return Time::Never;
-    };
-    if (minute as u64) < edge {
-        return Time::At(minute);
-    }
-    Time::Never
-}
-
-// A time where it is in a window: the lower edge is inside, the upper one is not.
-pub fn within(lower: Edge, upper: Edge, time: Time) -> Time
-    ensures { result ≡ from_edge lower (before_edge upper time) }
-{
-    from_edge(lower, before_edge(upper, time))
+    Edge::Minute(u64::from(minute.saturating_sub(offset)))
 }
 
 // The time of an upper edge: none if it is open or past the last minute.
+#[tactic(auto, unfolding(meaning::specs::Meaning::reached, meaning::specs::Time::cut, meaning::specs::Time::last_minute))]
 pub fn reached(upper: Edge) -> Time
     ensures { result ≡ reached upper }
 {
-    let Edge::Minute(edge) = upper else {
-        return Time::Never;
-    };
-    if edge <= LAST_MINUTE {
-        return Time::At(edge as u32);
-    }
-    Time::Never
-}
-
-// And: both are needed, one failure is enough.
-fn and_of(a: Times, b: Times) -> Times
-    ensures { result ≡ and_of a b }
-{
-    let a_occurs = a.occurs;
-    let a_fails = a.fails;
-    let b_occurs = b.occurs;
-    let b_fails = b.fails;
-    Times {
-        occurs: a_occurs.later_of(b_occurs),
-        fails: a_fails.earlier_of(b_fails),
+    match upper {
+        Edge::Minute(edge) if edge <= LAST_MINUTE => Time::At(edge as u32),
+        _ => Time::Never,
     }
 }
 
-// Or: one is enough, both have to fail.
-fn or_of(a: Times, b: Times) -> Times
-    ensures { result ≡ or_of a b }
-{
-    let a_occurs = a.occurs;
-    let a_fails = a.fails;
-    let b_occurs = b.occurs;
-    let b_fails = b.fails;
-    Times {
-        occurs: a_occurs.earlier_of(b_occurs),
-        fails: a_fails.later_of(b_fails),
-    }
+// A window of time: its lower edge is inside, its upper one is not.
+#[derive(Clone, Copy, Debug, PartialEq, Eq)]
+pub struct Window {
+    pub lower: Edge,
+    pub upper: Edge,
 }
 
-// Except: a has to occur and b to fail; a's failure or b's occurrence ends it.
-fn except_of(a: Times, b: Times) -> Times
-    ensures { result ≡ except_of a b }
-{
-    let a_occurs = a.occurs;
-    let a_fails = a.fails;
-    let b_occurs = b.occurs;
-    let b_fails = b.fails;
-    Times {
-        occurs: a_occurs.later_of(b_fails),
-        fails: a_fails.earlier_of(b_occurs),
-    }
-}
-
-// What discharges an agreement, by its norm type.
-fn discharged(norm: NormType, create: Times, detach: Times, consequent: Times) -> Time
-    ensures { result ≡ stage_from Stage.Discharged norm create detach consequent }
-{
-    let detached = and_of(create, detach);
-    match norm {
-        NormType::Commitment => {
-            or_of(and_of(create, consequent), and_of(detach, consequent)).occurs
+impl Window {
+    // A time where it is in the window, else none.
+    #[tactic(auto, unfolding(meaning::specs::Meaning::from_edge, meaning::specs::Meaning::before_edge, meaning::specs::Time::from, meaning::specs::Time::before))]
+    pub fn within(self, time: Time) -> Time
+        ensures { result ≡ from_edge self.lower (before_edge self.upper time) }
+    {
+        let Time::At(minute) = time else {
+            return Time::Never;
+        };
+        let edge = Edge::Minute(u64::from(minute));
+        if self.lower <= edge && edge < self.upper {
+            time
+        } else {
+            Time::Never
         }
-        NormType::Authorization => and_of(detached, consequent).occurs,
-        NormType::Prohibition => except_of(detached, consequent).occurs,
-        NormType::Power => and_of(detached, consequent).occurs,
     }
 }
 
-// What violates an agreement, by its norm type.
-fn violated(norm: NormType, create: Times, detach: Times, consequent: Times) -> Time
-    ensures { result ≡ stage_from Stage.Violated norm create detach consequent }
-{
-    let detached = and_of(create, detach);
-    match norm {
-        NormType::Commitment => except_of(detached, consequent).occurs,
-        NormType::Authorization => Time::Never,
-        NormType::Prohibition => and_of(detached, consequent).occurs,
-        NormType::Power => Time::Never,
-    }
+// The times of a schema's three clauses, for one subject.
+#[derive(Clone, Copy, Debug, PartialEq, Eq)]
+pub struct ClauseTimes {
+    pub create: Times,
+    pub detach: Times,
+    pub consequent: Times,
 }
 
-// What brings a stage about, from the times of the clauses.
-fn brought_about(
-    stage: Stage,
-    norm: NormType,
-    create: Times,
-    detach: Times,
-    consequent: Times,
-) -> Time
-    ensures { result ≡ stage_from stage norm create detach consequent }
-{
-    match stage {
-        Stage::Created => create.occurs,
-        Stage::Detached => and_of(create, detach).occurs,
-        Stage::Expired => except_of(create, detach).occurs,
-        Stage::Discharged => discharged(norm, create, detach, consequent),
-        Stage::Violated => violated(norm, create, detach, consequent),
+impl ClauseTimes {
+    // What brings a stage about, by the norm type.
+    #[tactic(auto, unfolding(meaning::specs::Meaning::stage_from))]
+    fn brought_about(self, stage: Stage, norm: NormType) -> Time
+        ensures { result ≡ stage_from stage norm self.create self.detach self.consequent }
+    {
+        let ClauseTimes {
+            create,
+            detach,
+            consequent,
+        } = self;
+        let detached = create.and(detach);
+        match (stage, norm) {
+            (Stage::Created, _) => create.occurs,
+            (Stage::Detached, _) => detached.occurs,
+            (Stage::Expired, _) => create.except(detach).occurs,
+            (Stage::Discharged, NormType::Commitment) => create
+                .and(consequent)
+                .or(detach.and(consequent))
+                .occurs,
+            (Stage::Discharged, NormType::Authorization | NormType::Power) => detached
+                .and(consequent)
+                .occurs,
+            (Stage::Discharged, NormType::Prohibition) => detached.except(consequent).occurs,
+            (Stage::Violated, NormType::Commitment) => detached.except(consequent).occurs,
+            (Stage::Violated, NormType::Authorization | NormType::Power) => Time::Never,
+            (Stage::Violated, NormType::Prohibition) => detached.and(consequent).occurs,
+        }
     }
-}
 
-// A stage's time from the times of the clauses: not before its subject's stamp.
-pub fn stage_from(
-    stage: Stage,
-    norm: NormType,
-    stamp: u32,
-    create: Times,
-    detach: Times,
-    consequent: Times,
-) -> Time
-    ensures { result ≡ later_of (Time.At stamp) (stage_from stage norm create detach consequent) }
-{
-    Time::At(stamp).later_of(brought_about(stage, norm, create, detach, consequent))
+    // A stage's time: not before its subject's stamp.
+    pub fn stage_from(self, stage: Stage, norm: NormType, stamp: u32) -> Time
+        ensures { result ≡ later_of (Time.At stamp) (stage_from stage norm self.create self.detach self.consequent) }
+    {
+        Time::At(stamp).later_of(self.brought_about(stage, norm))
+    }
 }
 
 // What a stage needs of its detach clause.
@@ -211,34 +133,8 @@ pub fn detach_needs(stage: Stage) -> Needed
 {
     match stage {
         Stage::Created => Needed::Neither,
-        Stage::Detached => Needed::Occurrence,
         Stage::Expired => Needed::Failure,
-        Stage::Discharged => Needed::Occurrence,
-        Stage::Violated => Needed::Occurrence,
-    }
-}
-
-// What a discharge needs of its consequent clause.
-fn discharged_needs(norm: NormType) -> Needed
-    ensures { result ≡ consequent_needs Stage.Discharged norm }
-{
-    match norm {
-        NormType::Commitment => Needed::Occurrence,
-        NormType::Authorization => Needed::Occurrence,
-        NormType::Prohibition => Needed::Failure,
-        NormType::Power => Needed::Occurrence,
-    }
-}
-
-// What a violation needs of its consequent clause.
-fn violated_needs(norm: NormType) -> Needed
-    ensures { result ≡ consequent_needs Stage.Violated norm }
-{
-    match norm {
-        NormType::Commitment => Needed::Failure,
-        NormType::Authorization => Needed::Neither,
-        NormType::Prohibition => Needed::Occurrence,
-        NormType::Power => Needed::Neither,
+        Stage::Detached | Stage::Discharged | Stage::Violated => Needed::Occurrence,
     }
 }
 
@@ -246,12 +142,13 @@ fn violated_needs(norm: NormType) -> Needed
 pub fn consequent_needs(stage: Stage, norm: NormType) -> Needed
     ensures { result ≡ consequent_needs stage norm }
 {
-    match stage {
-        Stage::Created => Needed::Neither,
-        Stage::Detached => Needed::Neither,
-        Stage::Expired => Needed::Neither,
-        Stage::Discharged => discharged_needs(norm),
-        Stage::Violated => violated_needs(norm),
+    match (stage, norm) {
+        (Stage::Created | Stage::Detached | Stage::Expired, _) => Needed::Neither,
+        (Stage::Discharged, NormType::Prohibition) => Needed::Failure,
+        (Stage::Discharged, _) => Needed::Occurrence,
+        (Stage::Violated, NormType::Commitment) => Needed::Failure,
+        (Stage::Violated, NormType::Prohibition) => Needed::Occurrence,
+        (Stage::Violated, NormType::Authorization | NormType::Power) => Needed::Neither,
     }
 }
 
@@ -260,9 +157,7 @@ pub fn consequent_needs_all(norm: NormType) -> Needed
     ensures { result ≡ consequent_needs_all norm }
 {
     match norm {
-        NormType::Commitment => Needed::Both,
-        NormType::Authorization => Needed::Occurrence,
-        NormType::Prohibition => Needed::Both,
-        NormType::Power => Needed::Occurrence,
+        NormType::Commitment | NormType::Prohibition => Needed::Both,
+        NormType::Authorization | NormType::Power => Needed::Occurrence,
     }
 }

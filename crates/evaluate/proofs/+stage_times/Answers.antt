@@ -101,13 +101,13 @@ count_times-count_within-number-requires t c = record { ready = c.requires.ready
 
 pub count_times-returns-then-count-number : goal.count_times-returns-then-count-number
 count_times-returns-then-count-number t c =
-    count-more _ _ _ _ _ c.known_bound.ensures c.in-Known.is c.known_bound-2.ensures c.in-Known-known_bound.is
-    c.reached.ensures c.later_of.ensures c.later_of-settled.ensures c.count_within-number.ensures c.if-count-number.true
+    count-more _ _ _ _ _ c.known_bound.ensures c.in-Some.is c.known_bound-2.ensures c.in-Some-known_bound.is
+    c.reached-ended.ensures c.later_of.ensures c.later_of-settled.ensures c.count_within-number.ensures c.if-count-number.true
 
-pub count_times-returns : goal.count_times-returns
-count_times-returns t c =
-    count-few _ _ _ _ _ c.known_bound.ensures c.in-Known.is c.known_bound-2.ensures c.in-Known-known_bound.is
-    c.reached.ensures c.later_of.ensures c.later_of-settled.ensures c.count_within-number.ensures c.if-count-number.false
+pub count_times-returns-else-count-number : goal.count_times-returns-else-count-number
+count_times-returns-else-count-number t c =
+    count-few _ _ _ _ _ c.known_bound.ensures c.in-Some.is c.known_bound-2.ensures c.in-Some-known_bound.is
+    c.reached-ended.ensures c.later_of.ensures c.later_of-settled.ensures c.count_within-number.ensures c.if-count-number.false
 
 -- failure: when an expression fails
 
@@ -341,7 +341,7 @@ leaf_failure-returns-in_default-reached t c = search (fails-unreached, rules)
 -- nothing is before the upper bound
 pub leaf_failure-returns-in_default-first_within : goal.leaf_failure-returns-in_default-first_within
 leaf_failure-returns-in_default-first_within t c =
-    fails-empty _ _ _ _ _ c.known_bound.ensures c.in-Known.is c.reached.ensures c.in-At.is
+    fails-empty _ _ _ _ _ c.known_bound.ensures c.in-Some.is c.reached.ensures c.in-At.is
     c.first_within.ensures c.in_default-first_within.is c.later_of.ensures
 
 pub leaf_failure-returns-in_default-known_bound : goal.leaf_failure-returns-in_default-known_bound
@@ -353,15 +353,15 @@ leaf_failure-first_within-requires-2 t c = (omega arith, (c.requires.ready, c.re
 -- something is in the window
 pub leaf_failure-returns-in-At-first_within-2 : goal.leaf_failure-returns-in-At-first_within-2
 leaf_failure-returns-in-At-first_within-2 t c =
-    fails_met _ _ _ _ _ c.known_bound.ensures c.in-Known.is c.reached.ensures c.in-At.is
-    c.first_within.ensures c.in-At-first_within.is c.known_bound-2.ensures c.in-Known-known_bound.is
+    fails_met _ _ _ _ _ c.known_bound.ensures c.in-Some.is c.reached.ensures c.in-At.is
+    c.first_within.ensures c.in-At-first_within.is c.known_bound-2.ensures c.in-Some-known_bound.is
     c.first_within-2.ensures c.in-At-first_within-2.is
 
 -- something is before the upper bound, nothing in the window
 pub leaf_failure-returns-in-Never : goal.leaf_failure-returns-in-Never
 leaf_failure-returns-in-Never t c =
-    fails-missed _ _ _ _ _ c.known_bound.ensures c.in-Known.is c.reached.ensures c.in-At.is
-    c.first_within.ensures c.in-At-first_within.is c.known_bound-2.ensures c.in-Known-known_bound.is
+    fails-missed _ _ _ _ _ c.known_bound.ensures c.in-Some.is c.reached.ensures c.in-At.is
+    c.first_within.ensures c.in-At-first_within.is c.known_bound-2.ensures c.in-Some-known_bound.is
     c.first_within-2.ensures c.in-Never.is c.later_of-in-Never.ensures c.later_of-in-Never-2.ensures
 
 -- leaf_occurrence: when a leaf occurs
@@ -375,7 +375,7 @@ leaf_occurrence-returns-in_default-known_bound t c = search (occurs-no-upper, ru
 -- both bounds are known
 pub leaf_occurrence-returns : goal.leaf_occurrence-returns
 leaf_occurrence-returns t c =
-    occurs _ _ _ _ _ c.known_bound.ensures c.in-Known.is c.known_bound-2.ensures c.in-Known-known_bound.is
+    occurs _ _ _ _ _ c.known_bound.ensures c.in-Some.is c.known_bound-2.ensures c.in-Some-known_bound.is
     c.first_within-first.ensures c.later_of.ensures c.later_of-2.ensures
 
 -- occurrence: when an expression occurs

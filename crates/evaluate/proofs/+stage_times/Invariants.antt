@@ -54,7 +54,7 @@ decreases-stage_time l = rank l.stage l.schema * 512 + 511
 
 abbrev pub invariant-first_within-loop-at : goal.invariant-first_within-loop-at
 invariant-first_within-loop-at l =
-    (left : List ℕ) × Walking l.log l.table l.mark l.at left × All (Stands (terms_of l.terms) l.log) left × Scanned l.terms l.log l.clause.rank l.clause.subject l.lower l.upper l.event l.first left
+    (left : List ℕ) × Walking l.log l.table l.mark l.at left × All (Stands (terms_of l.terms) l.log) left × Scanned l.terms l.log l.clause.rank l.clause.subject l.window.lower l.window.upper l.event l.first left
 
 abbrev pub decreases-first_within-loop-at : goal.decreases-first_within-loop-at
 decreases-first_within-loop-at l = l.at

@@ -3,7 +3,6 @@ use Prim.Native.Nat.{◌<◌}
 use native.Mathlib.Omega.{arith}
 use mathlib.Core.Path.{◌≡◌, refl}
 use lib.ListN.{drop}
-use borrow.Author.Rules.{rules}
 use Rattle.meaning.specs.declared.Time.{Time}
 use Rattle.meaning.specs.declared.Time.TheVariants.{At}
 use Rattle.meaning.specs.declared.Stage.{Stage}
@@ -53,10 +52,6 @@ pub stamp_at-stamp-requires : goal.stamp_at-stamp-requires
 unfolding schemas_limit
 stamp_at-stamp-requires c = stands-stamped _ c.args.log.now c.args.asked.subject c.requires.stands
 
-pub consequent_needs_all-needed-requires : goal.consequent_needs_all-needed-requires
-unfolding schemas_limit
-consequent_needs_all-needed-requires c = search rules
-
 pub clause_times-c-requires : goal.clause_times-c-requires
 unfolding schemas_limit
 clause_times-c-requires c = record { ready = c.requires.ready; posed = record { ranked = omega (arith, c.requires.schema_in_bounds); stands = c.requires.stands } }
@@ -68,46 +63,6 @@ clause_times-r-requires c = record { ready = c.requires.ready; posed = record { 
 pub clause_times-u-requires : goal.clause_times-u-requires
 unfolding schemas_limit
 clause_times-u-requires c = record { ready = c.requires.ready; posed = record { ranked = omega (arith, c.requires.schema_in_bounds); stands = c.requires.stands } }
-
-pub stage_from-requires : goal.stage_from-requires
-unfolding schemas_limit
-stage_from-requires c = search rules
-
-pub before-requires : goal.before-requires
-unfolding schemas_limit
-before-requires c = search rules
-
-pub stage_from-requires-2 : goal.stage_from-requires-2
-unfolding schemas_limit
-stage_from-requires-2 c = search rules
-
-pub before-requires-2 : goal.before-requires-2
-unfolding schemas_limit
-before-requires-2 c = search rules
-
-pub stage_from-requires-3 : goal.stage_from-requires-3
-unfolding schemas_limit
-stage_from-requires-3 c = search rules
-
-pub before-requires-3 : goal.before-requires-3
-unfolding schemas_limit
-before-requires-3 c = search rules
-
-pub stage_from-requires-4 : goal.stage_from-requires-4
-unfolding schemas_limit
-stage_from-requires-4 c = search rules
-
-pub before-requires-4 : goal.before-requires-4
-unfolding schemas_limit
-before-requires-4 c = search rules
-
-pub stage_from-requires-5 : goal.stage_from-requires-5
-unfolding schemas_limit
-stage_from-requires-5 c = search rules
-
-pub before-requires-5 : goal.before-requires-5
-unfolding schemas_limit
-before-requires-5 c = search rules
 
 pub returns : goal.returns
 returns c =
