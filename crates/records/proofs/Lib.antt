@@ -3,3 +3,4 @@ pub mod Steps
 pub mod Apart
 pub mod Keys
 pub mod Places
+pub mod Walks
