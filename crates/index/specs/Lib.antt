@@ -2,3 +2,4 @@
 pub mod Words
 pub mod Chains
 pub mod Asked
+pub mod Walk
