@@ -1,13 +1,16 @@
--- No more rows than five for each record of the subject kind.
+-- No more rows than five for each record of the subject kind, and than bytes of records.
 --     schema-most      of a schema, by the records that an index finds
+--     rows-short       of the records of a log, by its bytes
 -- Assumes nothing.
-use Prim.Native.Nat.{ℕ, ◌+◌, ◌*◌, ◌≤◌}
+use Prim.Native.Nat.{ℕ, zero, suc, ◌+◌, ◌*◌, ◌≤◌}
 use native.Mathlib.Omega.{arith}
-use mathlib.Core.Path.{◌≡◌, ap, sym, ◌∙◌}
+use mathlib.Core.Path.{◌≡◌, refl, ap, sym, ◌∙◌}
 use mathlib.Core.Bool.{Bool, true, false}
 use mathlib.Core.List.{List, [], ◌∷◌, map, flat_map}
 use lib.Dec.{eqb}
-use lib.ListN.{length, length-append}
+use mathlib.Core.Option.{none, some}
+use Rattle.std.specs.List.{sum}
+use lib.ListN.{length, length-append, drop}
 use Rattle.meaning.specs.declared.Row.{Row}
 use Rattle.meaning.specs.declared.Stage.{Stage}
 use Rattle.meaning.specs.declared.Stage.TheVariants.{Created, Detached, Expired, Discharged, Violated}
@@ -19,16 +22,19 @@ use Rattle.meaning.specs.Rows.{row_of, row_at, is_subject, subject_rows}
 use Rattle.meaning.proofs.StrikeLaws.{strike-le}
 use Rattle.meaning.proofs.RowLaws.{row_one}
 use Rattle.format.specs.Fields.{terms_of}
-use Rattle.format.specs.Records.{value_width, records_in}
+use Rattle.format.specs.Bytes.{byte_at}
+use Rattle.format.specs.Records.{value_width, record_length, read_record, records_in}
 use Rattle.format.proofs.WalkLaws.{kind-here}
-use Rattle.records.specs.Holds.{record_at, places_in}
-use Rattle.records.proofs.Places.{records-same}
+use Rattle.records.specs.Holds.{record_at, places_from, places_in}
+use Rattle.records.proofs.Places.{records-same, places-more, places-none}
+use Rattle.records.proofs.Steps.{step-read}
 use Rattle.index.specs.Chains.{push_if}
 use Rattle.index.specs.declared.Mark.{Mark}
 use Rattle.index.specs.Asked.{all_of, hit, hits, found}
 use Rattle.index.proofs.Found.{all-hit}
-use Rattle.evaluate.specs.Seen.{log_in}
-use Rattle.report.specs.Shown.{timely, rows_from}
+use Rattle.evaluate.specs.Seen.{log_in, record_in}
+use Rattle.report.specs.Shown.{timely, record_rows, rows_from}
+use Rattle.report.proofs.RowSteps.{rows_of_places, rows_step, rows_none, rows-count}
 
 module _ (t : Terms) (all : Log) (j : ℕ) where
   -- five stages give five rows at most
@@ -38,6 +44,15 @@ module _ (t : Terms) (all : Log) (j : ℕ) where
     where
       one : (s : Stage) → length (row_at (row_of t j r s) (stage_time t all s j r)) ≤ 1
       one s = row_one (row_of t j r s) (stage_time t all s j r)
+
+  -- so a record has five at most
+  pub subject-five : (r : Record) → length (subject_rows t all j r) ≤ 5
+  unfolding subject_rows is_subject
+  subject-five r = go (eqb r.kind (schema_at t j).subject) (flat_map (λ s. row_at (row_of t j r s) (stage_time t all s j r)) stages) (five r)
+    where
+      go : (b : Bool) (own : List Row) → length own ≤ 5 → length {A = Row} (elim b [ true ↦ own | false ↦ [] ]) ≤ 5
+      go true own h = h
+      go false own h = omega arith
 
   -- a record has none but where it is a subject
   record-most : (r : Record) {b : Bool} → b ≡ eqb r.kind (schema_at t j).subject → (at : ℕ) (older : List ℕ)
@@ -84,3 +99,32 @@ schema-most terms log j m is q =
       strike-le (λ (x : Row). x.time) m (flat_map (subject_rows (terms_of terms) (log_in terms log) j) records),
       records-most (terms_of terms) (log_in terms log) j log,
     ))
+
+module _ (terms log : List ℕ) (j m : ℕ) where
+  -- the record at a place has five at most
+  record-five : (at : ℕ) → length (record_rows terms log j m at) ≤ 5
+  unfolding record_rows timely
+  record-five at =
+      let t = terms_of terms in
+      omega (arith, strike-le (λ (x : Row). x.time) m (subject_rows t (log_in terms log) j (record_in terms log at)), subject-five t (log_in terms log) j (record_in terms log at))
+
+  -- so the records from a place on have no more than bytes
+  rows-few : (n at : ℕ) → at ≤ length log → length (rows_of_places terms log j m (places_from n (terms_of terms) log at)) + at ≤ length log
+  unfolding places_from
+  rows-few zero at h = rw (rows_none terms log j m) (omega arith)
+  rows-few (suc n) at h = go (read_record value_width (terms_of terms) (drop at log)) refl (λ end. rows-few n end)
+    where
+      go : (found : _) → read_record value_width (terms_of terms) (drop at log) ≡ found
+          → ((end : ℕ) → end ≤ length log → length (rows_of_places terms log j m (places_from n (terms_of terms) log end)) + end ≤ length log)
+          → length (rows_of_places terms log j m (places_from (suc n) (terms_of terms) log at)) + at ≤ length log
+      go none e rest = rw (places-none (terms_of terms) log (suc n) at e, rows_none terms log j m) (omega arith)
+      go (some x) e rest =
+          let s = step-read (terms_of terms) log at e in
+          let places = places_from n (terms_of terms) log (at + record_length value_width (terms_of terms) (byte_at log at)) in
+          rw (places-more (terms_of terms) log n at s, rows_step terms log j m at places, length-append (record_rows terms log j m at) (rows_of_places terms log j m places))
+          (omega (arith, record-five at, rest _ s.inside, s.stamped))
+
+  -- the records of a log have no more than it has bytes
+  pub rows-short : sum (map (λ at. length (record_rows terms log j m at)) (places_in (terms_of terms) log)) ≤ length log
+  unfolding places_in
+  rows-short = rw (rows-count terms log j m (places_from (length log) (terms_of terms) log 0)) (omega (arith, rows-few (length log) 0 (omega arith)))

@@ -2,7 +2,8 @@
 --     row_in                            the row of an entry
 --     is-subject                       whether a record is a subject
 --     record-other, record-shown       the rows of one record under a schema
---     rows_step, rows_none             the rows of the records from a place on
+--     rows_of_places, rows_step, rows_none, rows_all, rows-count
+--                                      the rows of records at places
 --     schemas-step, schemas-none       the rows of the schemas from a number on
 --     all-rows                         these are the rows of call 4
 -- Assumes nothing.
@@ -10,10 +11,10 @@ use Prim.Native.Nat.{ℕ, suc, ◌+◌, ◌-◌, ◌≤◌, ◌<◌}
 use native.Mathlib.Nat.{sub-zero}
 use native.Mathlib.Numerals.{add-one}
 use native.Mathlib.Omega.{arith}
-use mathlib.Core.Path.{◌≡◌, ap, ◌∙◌}
-use mathlib.Core.List.{List, [], ◌++◌, flat_map, append-nil}
+use mathlib.Core.Path.{◌≡◌, refl, ap, sym, ◌∙◌}
+use mathlib.Core.List.{List, [], ◌∷◌, ◌++◌, map, flat_map, append-nil}
 use lib.Dec.{eqb}
-use lib.ListN.{length, take, drop}
+use lib.ListN.{length, length-append, take}
 use borrow.Author.Tests.{eq-eqb, ne_eqb}
 use Rattle.meaning.specs.declared.Time.{Time}
 use Rattle.meaning.specs.declared.Stage.{Stage}
@@ -26,14 +27,21 @@ use Rattle.meaning.specs.Terms.{schema_at}
 use Rattle.meaning.specs.Rows.{row_of, row_at, is_subject, subject_rows, timed_rows, strike, report_rows, entries_of}
 use Rattle.format.specs.Bytes.{byte_at}
 use Rattle.format.specs.Fields.{terms_of}
-use Rattle.format.specs.Records.{value_width, records_in, log_of}
+use Rattle.format.specs.Records.{value_width, log_of}
 use Rattle.calls.specs.Calls.{rows_of}
 use Rattle.meaning.proofs.StrikeLaws.{strike-append}
 use Rattle.meaning.proofs.RowLaws.{rows_at, subject_rows_at, strike-subject}
 use Rattle.format.proofs.WalkLaws.{kind-here}
-use Rattle.records.proofs.Steps.{Step}
+use Rattle.std.specs.List.{sum}
+use Rattle.std.proofs.lemmas.List.Sums.{sum_by-cons}
+use Rattle.records.specs.Holds.{record_at, places_in}
+use Rattle.records.proofs.Places.{records-same}
 use Rattle.evaluate.specs.Seen.{log_in, record_in}
 use Rattle.report.specs.Shown.{entries_in, timely, record_rows, rows_from, schemas_from}
+
+-- the rows of the records at places under a schema
+unfoldable pub rows_of_places : List ℕ → List ℕ → ℕ → ℕ → List ℕ → List Row
+rows_of_places terms log schema m places = timely m (flat_map (subject_rows (terms_of terms) (log_in terms log) schema) (map (record_at (terms_of terms) log) places))
 
 -- the row of a stage of the subject at a place, for a time or none
 unfoldable pub row_in : List ℕ → List ℕ → ℕ → ℕ → Stage → Time → List Row
@@ -64,14 +72,28 @@ module _ (terms log : List ℕ) where
         ∙ rw (is-subject schema at ∙ eq-eqb (byte_at log at) _ is, subject_rows_at, e, append-nil)
 
     -- the rows of the record at a place come before those of the records after it
-    pub rows_step : {end : ℕ} → Step (terms_of terms) log at end → rows_from terms log schema m at ≡ record_rows terms log schema m at ++ rows_from terms log schema m end
-    unfolding rows_from record_rows timely record_in flat_map
-    rows_step here = rw here.records (strike-append (λ (x : Row). x.time) m _ _)
+    pub rows_step : (places : List ℕ) → rows_of_places terms log schema m (at ∷ places) ≡ record_rows terms log schema m at ++ rows_of_places terms log schema m places
+    unfolding rows_of_places record_rows timely record_in flat_map
+    rows_step places = strike-append (λ (x : Row). x.time) m _ _
 
-    -- where there are no records there are no rows
-    pub rows_none : records_in value_width (terms_of terms) (drop at log) ≡ [] → rows_from terms log schema m at ≡ []
-    unfolding rows_from timely strike flat_map
-    rows_none e = rw e
+  module _ (schema m : ℕ) where
+    -- where no records are left there are no rows
+    pub rows_none : rows_of_places terms log schema m [] ≡ []
+    unfolding rows_of_places timely strike flat_map
+    rows_none = refl
+
+    -- the rows of all records
+    pub rows_all : rows_of_places terms log schema m (places_in (terms_of terms) log) ≡ rows_from terms log schema m 0
+    unfolding rows_of_places rows_from
+    rows_all = rw (records-same (terms_of terms) log)
+
+    -- as many as their records have
+    pub rows-count : (places : List ℕ) → sum (map (λ at. length (record_rows terms log schema m at)) places) ≡ length (rows_of_places terms log schema m places)
+    rows-count [] = ap length (sym rows_none)
+    rows-count (at ∷ places) =
+        sum_by-cons (λ n. n) (length (record_rows terms log schema m at)) (map (λ r. length (record_rows terms log schema m r)) places)
+        ∙ ap (λ n. length (record_rows terms log schema m at) + n) (rows-count places)
+        ∙ sym (ap length (rows_step schema m at places) ∙ length-append (record_rows terms log schema m at) (rows_of_places terms log schema m places))
 
   module _ (m j : ℕ) where
     -- the rows of a schema come before those of the schemas after it

@@ -1,25 +1,27 @@
 -- The subject that a standing asks for, and what call 5 answers.
 --     sought-other, sought-key, sought-stamp
 --                                       whether a record is that subject
---     found_here, found_after           the search, record by record
+--     found-first, found-at             the search, by the places of the records
 --     standing-refused, standing-past, standing-nobody, standing-shown
 --                                       the answer: refused as call 2, by 15, by 16, or the entries
 -- Assumes nothing.
 use Prim.Native.Nat.{ℕ, ◌≤◌, ◌<◌}
-use mathlib.Core.Path.{◌≡◌, sym, ◌∙◌}
-use mathlib.Core.Bool.{Bool, true, false}
-use mathlib.Core.List.{List, ◌++◌}
-use mathlib.Core.Option.{some}
+use mathlib.Core.Path.{◌≡◌, refl, sym, ◌∙◌}
+use mathlib.Core.Bool.{Bool, true, false, cond}
+use mathlib.Core.List.{List, [], ◌∷◌, ◌++◌, map}
+use mathlib.Core.Option.{none, some}
 use lib.Dec.{ltb}
-use lib.ListN.{length, take, drop}
+use lib.ListN.{length, take}
 use borrow.Author.Tests.{le-leb, lt-leb, eq-eqb, ne_eqb}
 use Rattle.calls.specs.declared.Refusal.{Refusal}
 use Rattle.calls.specs.declared.Refusal.TheVariants.{NoSchema, NoSubject}
-use Rattle.std.specs.Prelude.{Result, Ok, Err, Some, None}
+use Rattle.std.specs.Prelude.{Result, Ok, Err, Some, None, Option, MatchOption}
 use Rattle.meaning.specs.declared.Entries.{Entries}
 use Rattle.meaning.specs.Terms.{Terms, schema_at}
 use Rattle.meaning.specs.Log.{Record, key_of}
-use Rattle.meaning.specs.Rows.{find, is_sought}
+use Rattle.meaning.specs.Rows.{find as first, is_sought, subject_of}
+use Rattle.std.specs.List.{find}
+use Rattle.meaning.specs.Lists.{All}
 use Rattle.format.specs.Bytes.{byte_at}
 use Rattle.format.specs.Fields.{terms_of}
 use Rattle.format.specs.Records.{value_width, records_in, log_of}
@@ -27,8 +29,8 @@ use Rattle.calls.specs.Answers.{refusal_number, checked_answer, standing_answer}
 use Rattle.calls.specs.Calls.{Check, refusal, log_checks, check_log, no_schema, missing, standing_subject, key_checks, entries_for, standing_as, standing}
 use Rattle.calls.proofs.AnswerLaws.{refusal-positive}
 use Rattle.calls.proofs.StandingLaws.{refused-entries}
-use Rattle.records.specs.Holds.{record_at}
-use Rattle.records.proofs.Steps.{Step}
+use Rattle.records.specs.Holds.{Stands, record_at, places_in}
+use Rattle.records.proofs.Places.{records-same, places-stand}
 use Rattle.event_log.proofs.Checks.{log-refused}
 use Rattle.evaluate.specs.Seen.{log_in, record_in}
 use Rattle.report.specs.Shown.{entries_in, FoundAt}
@@ -51,16 +53,39 @@ module _ (terms log : List ℕ) (schema key m at : ℕ) where
     unfolding is_sought record_in
     sought-stamp same st = rw (is-subject terms log schema at ∙ eq-eqb (byte_at log at) _ is, ← e, eq-eqb k key same, st)
 
-module _ {t : Terms} {log : List ℕ} {at end : ℕ} (here : Step t log at end) (p : Record → Bool) {found : Bool} (e : found ≡ p (record_at t log at)) where
-  -- the record at a place passes the test
-  pub found_here : found ≡ true → find p (records_in value_width t (drop at log)) ≡ some (record_at t log at)
-  unfolding find
-  found_here is = rw (here.records, sym e ∙ is)
+-- the first place that passes a test has the first record that passes it
+pub found-first : (t : Terms) (log : List ℕ) (p : Record → Bool) (places : List ℕ) → All (Stands t log) places
+    → MatchOption (find (λ at. p (record_at t log at)) places) (first p (map (record_at t log) places) ≡ none)
+    (λ at. (first p (map (record_at t log) places) ≡ some (record_at t log at)) × Stands t log at)
+unfolding first
+found-first t log p [] all = refl
+found-first t log p (at ∷ places) all = go (p (record_at t log at)) (found-first t log p places all.1)
+  where
+    go : (b : Bool)
+        → MatchOption (find (λ at. p (record_at t log at)) places) (first p (map (record_at t log) places) ≡ none)
+        (λ at. (first p (map (record_at t log) places) ≡ some (record_at t log at)) × Stands t log at)
+        → MatchOption (cond b (Some at) (find (λ at. p (record_at t log at)) places)) (cond b (some (record_at t log at)) (first p (map (record_at t log) places)) ≡ none)
+        (λ at'. (cond b (some (record_at t log at)) (first p (map (record_at t log) places)) ≡ some (record_at t log at')) × Stands t log at')
+    go true rest = (refl, all.0)
+    go false rest = rest
 
-  -- it does not: the search goes on after it
-  pub found_after : found ≡ false → find p (records_in value_width t (drop at log)) ≡ find p (records_in value_width t (drop end log))
-  unfolding find
-  found_after is = rw (here.records, sym e ∙ is)
+-- it is the subject that a standing asks for
+pub found-at : (terms log : List ℕ) (schema key m : ℕ) {place : Option ℕ} → place ≡ find (λ at. is_sought (terms_of terms) schema key m (record_in terms log at)) (places_in (terms_of terms) log)
+    → FoundAt terms log schema key m place
+unfolding subject_of log_in record_in
+found-at terms log schema key m {place} e = go place (rw (← e, records-same t log) at (found-first t log p (places_in t log) (places-stand t log)))
+  where
+    t : Terms
+    t = terms_of terms
+
+    p : Record → Bool
+    p = is_sought t schema key m
+
+    go : (place : Option ℕ)
+        → MatchOption place (first p (records_in value_width t log) ≡ none) (λ at. (first p (records_in value_width t log) ≡ some (record_at t log at)) × Stands t log at)
+        → FoundAt terms log schema key m place
+    go (Some at) found = found
+    go None found = found
 
 module _ (terms log : List ℕ) (used schema key m : ℕ) where
   -- the refusals of call 2 come first
@@ -79,7 +104,7 @@ module _ (terms log : List ℕ) (used schema key m : ℕ) where
       -- no subject was found
       pub standing-nobody : FoundAt terms (take used log) schema key m None → standing_answer (Err NoSubject) ≡ standing value_width terms log used schema key m
       unfolding standing_answer standing standing_as key_checks refusal no_schema missing standing_subject log_of log_in
-      standing-nobody none = rw (kept, lt-leb (length (terms_of terms).schemas) schema there, none)
+      standing-nobody nobody = rw (kept, lt-leb (length (terms_of terms).schemas) schema there, nobody)
 
       -- the entries of the one that was found
       pub standing-shown : (at : ℕ) {e : Entries} → FoundAt terms (take used log) schema key m (Some at) → e ≡ entries_in terms (take used log) at schema m

@@ -18,7 +18,7 @@ use calls::Refusal;
 use event_log::check_log_under;
 use grammar::read_layout;
 use meaning::Entries;
-use records::{key_at, read_record, stamp_at};
+use records::{Records, key_at, stamp_at};
 use rows::{Asked, entries_of, too_short, write_rows};
 use table::{TABLE_LENGTH, schema_count, subject_of};
 
@@ -80,17 +80,9 @@ fn find_subject(
     requires { Read terms.now table.now }
     ensures { FoundAt terms.now log.now schema key moment result }
 {
-    let mut at: usize = 0;
-    while at < log.len() {
-        let Some(end) = read_record(terms, log, table, at) else {
-            return None;
-        };
-        if is_sought(terms, log, table, at, schema, key, moment) {
-            return Some(at);
-        }
-        at = end;
-    }
-    None
+    Records::new(terms, log, table).find(|at| is_sought(
+        terms, log, table, *at, schema, key, moment,
+    ))
 }
 
 // Call 5: the standing of the agreement of a schema with a key at a moment.

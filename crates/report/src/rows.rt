@@ -18,7 +18,7 @@ use crate::ROW_LENGTH;
 use evaluate::{Clause, clause_times};
 use index::{all_of, count_with};
 use meaning::{Entries, Row, Stage, Time};
-use records::{Masked, key_at, read_record, stamp_at, value_of};
+use records::{Masked, Records, key_at, stamp_at, value_of};
 use table::{VALUE_WIDTH, head_at, mask_in, norm_type, schema_count, subject_of};
 use times::{ClauseTimes, Needed, before, consequent_needs_all};
 
@@ -121,21 +121,16 @@ fn count_schema(terms: &[u8], log: &[u8], table: &[u16], schema: usize, moment: 
     requires schema_in_bounds { schema < length (file_of terms.now).schemas }
     ensures { (result ≡ length (rows_from terms.now log.now schema moment 0)) × (result ≤ index_limit) }
 {
-    let mut count: usize = 0;
-    let mut at: usize = 0;
-    while at < log.len() {
-        let Some(end) = read_record(terms, log, table, at) else {
-            return count;
-        };
-        let asked = Asked {
-            subject: at,
-            schema,
-            moment,
-        };
-        count += count_record(terms, log, table, asked);
-        at = end;
-    }
-    count
+    Records::new(terms, log, table)
+        .map(|subject| {
+            let asked = Asked {
+                subject,
+                schema,
+                moment,
+            };
+            count_record(terms, log, table, asked)
+        })
+        .sum()
 }
 
 // How many rows a report has.
@@ -144,10 +139,8 @@ fn count_rows(terms: &[u8], log: &[u8], table: &[u16], moment: u32) -> usize
     ensures { (result ≡ length (schemas_from terms.now log.now moment 0)) × (result ≤ schemas_limit * index_limit) }
 {
     let mut count: usize = 0;
-    let mut schema: usize = 0;
-    while schema < schema_count(table) {
+    for schema in 0..schema_count(table) {
         count += count_schema(terms, log, table, schema, moment);
-        schema += 1;
     }
     count
 }
@@ -167,10 +160,8 @@ fn rows_at_most(terms: &[u8], log: &[u8], table: &[u16]) -> usize
     ensures { ((m : ℕ) → length (schemas_from terms.now log.now m 0) ≤ result) × (result ≤ schemas_limit * (5 * index_limit)) }
 {
     let mut most: usize = 0;
-    let mut schema: usize = 0;
-    while schema < schema_count(table) {
+    for schema in 0..schema_count(table) {
         most += schema_rows_at_most(terms, log, table, schema);
-        schema += 1;
     }
     most
 }
@@ -212,10 +203,7 @@ fn put_u32(page: &mut [u8], at: usize, n: u32)
     requires { at + 4 ≤ length page.old }
     ensures { page.new ≡ written page.old at (bytes_of 4 n) }
 {
-    page[at] = (n % 256) as u8;
-    page[at + 1] = (n / 256 % 256) as u8;
-    page[at + 2] = (n / 65536 % 256) as u8;
-    page[at + 3] = (n / 16777216 % 256) as u8;
+    page[at..at + 4].copy_from_slice(&n.to_le_bytes());
 }
 
 // Puts a row on the page.
@@ -301,18 +289,13 @@ fn write_schema(
     ensures { (result ≡ from + row_length value_width * length (rows_from terms.now log.now schema moment 0)) × (page.new ≡ with_rows page.old from (rows_from terms.now log.now schema moment 0)) }
 {
     let mut to = from;
-    let mut at: usize = 0;
-    while at < log.len() {
-        let Some(end) = read_record(terms, log, table, at) else {
-            return to;
-        };
+    for subject in Records::new(terms, log, table) {
         let asked = Asked {
-            subject: at,
+            subject,
             schema,
             moment,
         };
         to = write_record(terms, log, table, asked, page, to);
-        at = end;
     }
     to
 }
@@ -330,10 +313,8 @@ pub(crate) fn write_rows(
     ensures { (result ≡ length (schemas_from terms.now log.now moment 0)) × (page.new ≡ with_rows page.old 0 (schemas_from terms.now log.now moment 0)) }
 {
     let mut to: usize = 0;
-    let mut schema: usize = 0;
-    while schema < schema_count(table) {
+    for schema in 0..schema_count(table) {
         to = write_schema(terms, log, table, schema, moment, page, to);
-        schema += 1;
     }
     to / ROW_LENGTH
 }

@@ -1,8 +1,7 @@
--- What the loop of `count_rows` keeps, and what falls.
-use Prim.Native.Nat.{◌+◌, ◌-◌, ◌*◌, ◌≤◌}
+-- What the loop of `count_rows` keeps.
+use Prim.Native.Nat.{◌+◌, ◌*◌, ◌≤◌}
 use mathlib.Core.Path.{◌≡◌}
 use lib.ListN.{length}
-use Rattle.format.specs.Grammar.{schemas_limit, file_of}
 use Rattle.index.specs.Chains.{index_limit}
 use Rattle.report.specs.Shown.{schemas_from}
 use Rattle.report.proofs.rows.count_rows.Given as goal
@@ -10,7 +9,4 @@ use Rattle.report.proofs.rows.count_rows.Given as goal
 abbrev pub invariant-loop-schema : goal.invariant-loop-schema
 invariant-loop-schema l =
     (l.count + length (schemas_from l.terms l.log l.moment l.schema) ≡ length (schemas_from l.terms l.log l.moment 0))
-    × (l.count ≤ index_limit * l.schema) × (l.schema ≤ length (file_of l.terms).schemas) × (length (file_of l.terms).schemas ≤ schemas_limit)
-
-abbrev pub decreases-loop-schema : goal.decreases-loop-schema
-decreases-loop-schema l = length (file_of l.terms).schemas - l.schema
+    × (l.count ≤ index_limit * l.schema)

@@ -1,50 +1,48 @@
--- `write_schema` meets its contract: the rows of the records read are put, those of the records from the place on are left. Assumes nothing.
-use native.Mathlib.Omega.{arith}
+-- `write_schema` meets its contract: the rows of the records so far are put, those of the records that are left are left. Assumes nothing.
+use mathlib.Core.Path.{◌≡◌, ap, ◌∙◌}
+use mathlib.Core.List.{◌∷◌, ◌++◌}
+use Rattle.meaning.specs.Lists.{All}
 use Rattle.format.specs.Fields.{terms_of}
-use Rattle.format.specs.Records.{value_width}
-use Rattle.format.proofs.WalkLaws.{walk_end}
-use Rattle.records.proofs.Steps.{Step, step, stop}
+use Rattle.records.specs.Holds.{Stands, places_in}
+use Rattle.records.specs.Walk.{places_left}
+use Rattle.records.proofs.Places.{places-stand}
 use Rattle.report.specs.Shown.{record_rows}
-use Rattle.report.proofs.RowSteps.{rows_step, rows_none}
+use Rattle.report.proofs.RowSteps.{rows_of_places, rows_step, rows_none, rows_all}
 use Rattle.report.proofs.Pages.{left-all, left-room, left-next, left_end}
 use Rattle.report.proofs.rows.write_schema.Goals.{In-Some}
 use Rattle.report.proofs.rows.write_schema.Goals as goal
 
--- the step that a turn takes
-here : (c : In-Some) → let a = c.args in
-    Step (terms_of a.terms.now) a.log.now c.loop-at.at c.in-Some.end
-here c = step _ _ _ c.in-Some.is c.read_record.ensures
+-- a record stands at the place of a turn, and at those that are left
+stand : (c : In-Some) → All (Stands (terms_of c.args.terms.now) c.args.log.now) (c.in-Some.subject ∷ places_left c.next.new.self)
+stand c = rw c.in-Some.ensures.steps at c.loop-subject.invariant.0
 
-pub loop-at-init : goal.loop-at-init
-loop-at-init c = left-all _ _ _ c.requires.rows_fit
-
-pub read_record-requires : goal.read_record-requires
-read_record-requires c = c.requires.ready.read.0
-
-pub shape_of-page-in_default : goal.shape_of-page-in_default
-shape_of-page-in_default c = c.loop-at.invariant.long
-
-pub returns-in_default : goal.returns-in_default
-returns-in_default c =
+-- its rows come first
+next : (c : In-Some) → let a = c.args in
+    rows_of_places a.terms.now a.log.now a.schema a.moment (places_left c.loop-subject.subject-iterator)
+    ≡ record_rows a.terms.now a.log.now a.schema a.moment c.in-Some.subject ++ rows_of_places a.terms.now a.log.now a.schema a.moment (places_left c.next.new.self)
+next c =
     let a = c.args in
-    left_end c.loop-at.invariant (rows_none a.terms.now a.log.now a.schema a.moment c.loop-at.at (stop (terms_of a.terms.now) a.log.now c.loop-at.at c.in_default.is c.read_record.ensures).0)
+    ap (rows_of_places a.terms.now a.log.now a.schema a.moment) c.in-Some.ensures.steps ∙ rows_step a.terms.now a.log.now a.schema a.moment c.in-Some.subject (places_left c.next.new.self)
 
-pub write_record-to-requires : goal.write_record-to-requires
-write_record-to-requires c =
-    let a = c.args in record { ready = c.requires.ready; schema_in_bounds = c.requires.schema_in_bounds; stands = (here (goal.at.write_record-to-requires c).In-Some).stands; rows_fit = left-room c.loop-at.invariant (record_rows a.terms.now a.log.now a.schema a.moment c.loop-at.at) _ (rows_step a.terms.now a.log.now a.schema a.moment c.loop-at.at (here (goal.at.write_record-to-requires c).In-Some)) }
-
-pub loop-at-smaller : goal.loop-at-smaller
-loop-at-smaller c = omega (arith, (here (goal.at.loop-at-smaller c).In-Some).stamped)
-
-pub loop-at-preserved : goal.loop-at-preserved
-loop-at-preserved c =
+pub loop-subject-init : goal.loop-subject-init
+loop-subject-init c =
     let a = c.args in
-    left-next c.loop-at.invariant (record_rows a.terms.now a.log.now a.schema a.moment c.loop-at.at) _ (rows_step a.terms.now a.log.now a.schema a.moment c.loop-at.at (here (goal.at.loop-at-preserved c).In-Some)) c.write_record-to.ensures.0 c.write_record-to.ensures.1
+    let t = terms_of a.terms.now in
+    let all : places_left c.into_iter-subject-iterator.result ≡ places_in t a.log.now = rw c.into_iter-subject-iterator.ensures.into_iter_gives c.new-subject-items.ensures in
+    rw (all, rows_all a.terms.now a.log.now a.schema a.moment) (places-stand t a.log.now, left-all _ _ _ c.requires.rows_fit)
 
-pub shape_of-page : goal.shape_of-page
-shape_of-page c = c.loop-at.invariant.long
+pub write_record-to-requires-clause-stands : goal.write_record-to-requires-clause-stands
+write_record-to-requires-clause-stands c = (stand (goal.at.write_record-to-requires-clause-stands c).In-Some).0
+
+pub write_record-to-requires-clause-rows_fit : goal.write_record-to-requires-clause-rows_fit
+write_record-to-requires-clause-rows_fit c = left-room c.loop-subject.invariant.1 _ _ (next (goal.at.write_record-to-requires-clause-rows_fit c).In-Some)
+
+pub loop-subject-preserved : goal.loop-subject-preserved
+loop-subject-preserved c =
+    let i = (goal.at.loop-subject-preserved c).In-Some in
+    ((stand i).1, left-next c.loop-subject.invariant.1 _ _ (next i) c.write_record-to.ensures.0 c.write_record-to.ensures.1)
 
 pub returns : goal.returns
 returns c =
     let a = c.args in
-    left_end c.loop-at.invariant (rows_none a.terms.now a.log.now a.schema a.moment _ (walk_end value_width (terms_of a.terms.now) a.log.now _ c.loop-at-test.false).0)
+    left_end c.loop-subject.invariant.1 (ap (rows_of_places a.terms.now a.log.now a.schema a.moment) c.in-None.ensures.steps.0 ∙ rows_none a.terms.now a.log.now a.schema a.moment)
