@@ -7,6 +7,7 @@ use Prim.Native.Nat.{ℕ, zero, suc, ◌+◌, ◌-◌, ◌*◌, ◌≤◌, ◌<�
 use native.Mathlib.Omega.{arith}
 use mathlib.Core.Path.{◌≡◌, refl, ap, sym, ◌∙◌}
 use mathlib.Core.Bool.{Bool, true, false}
+use mathlib.Core.Logic.{◌⊎◌, inl, inr}
 use mathlib.Core.List.{List, [], ◌∷◌, ◌++◌}
 use mathlib.Core.Option.{none, some, bind}
 use lib.Dec.{ltb}
@@ -17,13 +18,15 @@ use Rattle.meaning.specs.Terms.{leaf, always}
 use Rattle.format.specs.Bytes.{byte_at, item}
 use Rattle.format.specs.Grammar.{SchemaItems, size, read_both, read_leaf, read_expr, read_clause, read_schema}
 use Rattle.std.specs.Prelude.{Option, Some, None}
-use Rattle.grammar.specs.declared.ExpressionReading.{ExpressionReading}
-use Rattle.grammar.specs.declared.ExpressionReading.TheVariants as expression
+use Rattle.grammar.specs.declared.Item.{Item}
+use Rattle.grammar.specs.declared.Item.TheVariants.{Kind, Schema, Leaf, And, Or, Except, Always, Count}
+use Rattle.grammar.specs.declared.Spot.{Spot}
+use Rattle.grammar.specs.Items.{code_of, body_of}
 use Rattle.grammar.specs.Found.{Found, FoundExpr}
 use Rattle.grammar.specs.Places.{ClausesAt, no_items, Starts}
-use Rattle.format.proofs.ReaderLaws.{item-sound}
-use Rattle.format.proofs.PlaceLaws.{drop_here, byte_inside}
-use Rattle.format.proofs.ExprLaws.{Joins, joins, LeafItem, reads-leaf, read-cut, read-always, read_none}
+use Rattle.format.proofs.ReaderLaws.{none-some, item-sound}
+use Rattle.format.proofs.PlaceLaws.{drop_here, byte_inside, item-here}
+use Rattle.format.proofs.ExprLaws.{Joins, joins, LeafItem, leaf-item, count-item, reads-leaf, read-cut, read-always, read_none}
 
 -- what is read at a connective's byte
 join-reads : (n items : ℕ) (s : List ℕ) (at : ℕ) (low : 4 ≤ byte_at s at) (high : byte_at s at ≤ 6)
@@ -31,8 +34,8 @@ join-reads : (n items : ℕ) (s : List ℕ) (at : ℕ) (low : 4 ≤ byte_at s at
 join-reads n items s at low high = rw (drop_here s at (byte_inside s at (omega arith))) ((joins (byte_at s at) low high).is.reads n items (drop (at + 1) s))
 
 -- what is read as the second operand ends the whole
-joined : (n items : ℕ) (s : List ℕ) (at middle left : ℕ) → 4 ≤ byte_at s at → byte_at s at ≤ 6 → FoundExpr n items s (at + 1) (expression.To middle left)
-    → (r : ExpressionReading) → FoundExpr n left s middle r → FoundExpr (suc n) (suc items) s at r
+joined : (n items : ℕ) (s : List ℕ) (at middle left : ℕ) → 4 ≤ byte_at s at → byte_at s at ≤ 6 → FoundExpr n items s (at + 1) (Some (record { at = middle; items = left }))
+    → (r : Option Spot) → FoundExpr n left s middle r → FoundExpr (suc n) (suc items) s at r
 unfolding read_both bind
 joined n items s at middle left low high a r b = go r b
   where
@@ -42,65 +45,9 @@ joined n items s at middle left low high a r b = go r b
     count : items - size a.0 ≡ left
     count = omega arith
 
-    go : (r : ExpressionReading) → FoundExpr n left s middle r → FoundExpr (suc n) (suc items) s at r
-    go (expression.To end rest) b = (j.join a.0 b.0, rw (join-reads n items s at low high, a.1, count, b.1), omega (arith, j.is.is.items a.0 b.0), omega arith, b.4)
-    go expression.Nothing b = rw (join-reads n items s at low high, a.1, count, b)
-
--- what the reader of expressions promises, whatever depth the model's is allowed
-abbrev Reads : ℕ → List ℕ → ℕ → ExpressionReading → Type 0
-Reads items s at r = (n : ℕ) → items ≤ n → FoundExpr n items s at r
-
-module _ (items : ℕ) (s : List ℕ) (at : ℕ) where
-  -- it is enough to go one deeper, with one item taken
-  one-taken : (r : ExpressionReading) → 1 ≤ items → ((n : ℕ) → items ≤ suc n → FoundExpr (suc n) (suc (items - 1)) s at r) → Reads items s at r
-  one-taken r p f zero h = absurd (omega arith)
-  one-taken r p f (suc n) h = let e : suc (items - 1) ≡ items = omega arith in rw e at (f n h)
-
-  -- no items are left
-  pub expr-no-items : items ≡ 0 → Reads items s at expression.Nothing
-  unfolding read_expr
-  expr-no-items e n h = rw e (elim n as (λ k. read_expr k 0 (drop at s) ≡ none) [ zero ↦ refl | suc n ↦ refl ])
-
-  -- no kind byte of an expression
-  pub expr-no-kind : (3 ≤ byte_at s at → byte_at s at ≤ 8 → ⊥) → Reads items s at expression.Nothing
-  expr-no-kind out n h = read_none n items s at out
-
-  module _ {kind body : ℕ} (is : LeafItem kind body) {r : Option ℕ} (b : byte_at s at ≡ kind) (found : Found (item kind body) s at r) where
-    -- a leaf that is cut off
-    pub expr-no-leaf : r ≡ None → Reads items s at expression.Nothing
-    expr-no-leaf e n h = read-cut is n items s at b (rw e at found)
-
-    -- a leaf
-    pub expr-leaf : {end : ℕ} → 1 ≤ items → r ≡ Some end → Reads items s at (expression.To end (items - 1))
-    unfolding read_leaf bind size
-    expr-leaf {end} p e =
-        let f = rw e at found in
-        one-taken (expression.To end (items - 1)) p (λ n h. (leaf (kind ∷ f.0), rw (reads-leaf is n (items - 1) s at b, f.1), omega arith, f.2, f.3))
-
-  -- always
-  pub expr-always : 1 ≤ items → byte_at s at ≡ 7 → Reads items s at (expression.To (at + 1) (items - 1))
-  unfolding size
-  expr-always p b n h =
-      let in_bytes = byte_inside s at (omega arith) in
-      (always, read-always n items s at (omega arith) p b in_bytes, omega arith, omega arith, omega arith)
-
-  -- a connective without its first operand
-  pub expr-no-first : {first : ExpressionReading} → 1 ≤ items → 4 ≤ byte_at s at → byte_at s at ≤ 6
-      → Reads (items - 1) s (at + 1) first → first ≡ expression.Nothing → Reads items s at expression.Nothing
-  unfolding read_both bind
-  expr-no-first p low high f e = one-taken expression.Nothing p (λ n h.
-      rw (join-reads n (items - 1) s at low high, rw e at (f n (omega arith))))
-
-  -- a connective: what its second operand gives
-  pub expr-both : {first : ExpressionReading} (r : ExpressionReading) {middle left : ℕ} → 1 ≤ items → 4 ≤ byte_at s at → byte_at s at ≤ 6
-      → Reads (items - 1) s (at + 1) first → first ≡ expression.To middle left → Reads left s middle r → Reads items s at r
-  expr-both r {middle} {left} p low high f e g = one-taken r p (λ n h.
-      let a = rw e at (f n (omega arith)) in
-      joined n (items - 1) s at middle left low high a r (g n (omega arith)))
-
-  -- no more items are left than there were
-  pub left-falls : {r : ExpressionReading} {end left : ℕ} → Reads items s at r → r ≡ expression.To end left → left ≤ items
-  left-falls f e = let a = rw e at (f items (omega arith)) in omega arith
+    go : (r : Option Spot) → FoundExpr n left s middle r → FoundExpr (suc n) (suc items) s at r
+    go (Some end) b = (j.join a.0 b.0, rw (join-reads n items s at low high, a.1, count, b.1), omega (arith, j.is.is.items a.0 b.0), omega arith, b.4)
+    go None b = rw (join-reads n items s at low high, a.1, count, b)
 
 -- an item that is read ends behind its body, which is what is read
 pub item-ends : (kind n : ℕ) (s : List ℕ) (at end : ℕ) {x : List ℕ} → item kind n (drop at s) ≡ some (x, drop end s) → end ≤ length s
@@ -109,6 +56,105 @@ item-ends kind n s at end {x} e h =
     let front = item-sound kind n (drop at s) e in
     let behind : drop (at + 1) s ≡ x ++ drop end s = sym (drop-drop 1 at s) ∙ ap (drop 1) front.0 in
     (omega (arith, simp (length-drop, length-append) at (ap length front.0), front.1), rw behind (sym (take_at x (drop end s) n front.1)))
+
+-- the items that end an expression, and those that join two
+abbrev pub Ends : Item → Type 0
+Ends k = (k ≡ Leaf) ⊎ ((k ≡ Always) ⊎ (k ≡ Count))
+
+abbrev pub Connects : Item → Type 0
+Connects k = (k ≡ And) ⊎ ((k ≡ Or) ⊎ (k ≡ Except))
+
+-- the kind bytes of those that join two
+pub connects-code : {k : Item} {b : ℕ} → Connects k → code_of k ≡ b → (4 ≤ b) × (b ≤ 6)
+connects-code {b = b} (inl e) h = let f : 4 ≡ b = rw e at h in (omega arith, omega arith)
+connects-code {b = b} (inr (inl e)) h = let f : 5 ≡ b = rw e at h in (omega arith, omega arith)
+connects-code {b = b} (inr (inr e)) h = let f : 6 ≡ b = rw e at h in (omega arith, omega arith)
+
+-- what the reader of expressions promises, whatever depth the model's is allowed
+abbrev Reads : ℕ → List ℕ → ℕ → Option Spot → Type 0
+Reads items s at r = (n : ℕ) → items ≤ n → FoundExpr n items s at r
+
+module _ (items : ℕ) (s : List ℕ) (at : ℕ) where
+  -- it is enough to go one deeper, with one item taken
+  one-taken : (r : Option Spot) → 1 ≤ items → ((n : ℕ) → items ≤ suc n → FoundExpr (suc n) (suc (items - 1)) s at r) → Reads items s at r
+  one-taken r p f zero h = absurd (omega arith)
+  one-taken r p f (suc n) h = let e : suc (items - 1) ≡ items = omega arith in rw e at (f n h)
+
+  -- no items are left
+  pub expr-no-items : items ≡ 0 → Reads items s at None
+  unfolding read_expr
+  expr-no-items e n h = rw e (elim n as (λ k. read_expr k 0 (drop at s) ≡ none) [ zero ↦ refl | suc n ↦ refl ])
+
+  -- no kind byte of an expression
+  pub expr-no-kind : (3 ≤ byte_at s at → byte_at s at ≤ 8 → ⊥) → Reads items s at None
+  expr-no-kind out n h = read_none n items s at out
+
+  module _ {kind body : ℕ} (is : LeafItem kind body) (b : byte_at s at ≡ kind) where
+    -- a leaf that is cut off
+    expr-no-leaf : item kind body (drop at s) ≡ none → Reads items s at None
+    expr-no-leaf f n h = read-cut is n items s at b f
+
+    -- a leaf
+    expr-leaf : {end : ℕ} → Found (item kind body) s at (Some end) → 1 ≤ items → Reads items s at (Some (record { at = end; items = items - 1 }))
+    unfolding read_leaf bind size
+    expr-leaf {end} f p =
+        one-taken (Some (record { at = end; items = items - 1 })) p (λ n h. (leaf (kind ∷ f.0), rw (reads-leaf is n (items - 1) s at b, f.1), omega arith, f.2, f.3))
+
+  -- always
+  expr-always : 1 ≤ items → byte_at s at ≡ 7 → Reads items s at (Some (record { at = at + 1; items = items - 1 }))
+  unfolding size
+  expr-always p b n h =
+      let in_bytes = byte_inside s at (omega arith) in
+      (always, read-always n items s at (omega arith) p b in_bytes, omega arith, omega arith, omega arith)
+
+  -- always has no body
+  always-here : byte_at s at ≡ 7 → item 7 0 (drop at s) ≡ some (take 0 (drop (at + 1) s), drop (at + 1 + 0) s)
+  always-here b = item-here 7 0 s at b (omega (arith, byte_inside s at (omega arith)))
+
+  -- no item of an expression
+  pub expr-head : {k : Item} → (k ≡ Kind) ⊎ (k ≡ Schema) → code_of k ≡ byte_at s at → Reads items s at None
+  expr-head (inl e) b = let f : 1 ≡ byte_at s at = rw e at b in expr-no-kind (λ low high. omega arith)
+  expr-head (inr e) b = let f : 2 ≡ byte_at s at = rw e at b in expr-no-kind (λ low high. omega arith)
+
+  -- a leaf, always or a count: it is cut off
+  pub expr-cut : {k : Item} → Ends k → code_of k ≡ byte_at s at → item (code_of k) (body_of k) (drop at s) ≡ none → Reads items s at None
+  expr-cut (inl e) b f = expr-no-leaf leaf-item (sym (rw e at b)) (rw e at f)
+  expr-cut (inr (inl e)) b f = none-some (sym (rw e at f) ∙ always-here (sym (rw e at b)))
+  expr-cut (inr (inr e)) b f = expr-no-leaf count-item (sym (rw e at b)) (rw e at f)
+
+  -- or it is read
+  pub expr-end : {k : Item} {end : ℕ} → Ends k → code_of k ≡ byte_at s at → Found (item (code_of k) (body_of k)) s at (Some end) → 1 ≤ items
+      → Reads items s at (Some (record { at = end; items = items - 1 }))
+  expr-end (inl e) b f p = expr-leaf leaf-item (sym (rw e at b)) (rw e at f) p
+  expr-end {end = end} (inr (inl e)) b f p =
+      let here = sym (rw e at b) in
+      let g : (x : List ℕ) × (item 7 0 (drop at s) ≡ some (x, drop end s)) × (at < end) × (end ≤ length s) = rw e at f in
+      let last : end ≡ at + 1 = omega (arith, (item-ends 7 0 s at end g.1 g.3).0) in
+      rw last (expr-always p here)
+  expr-end (inr (inr e)) b f p = expr-leaf count-item (sym (rw e at b)) (rw e at f) p
+
+  module _ {k : Item} (is : Connects k) (b : code_of k ≡ byte_at s at) (p : 1 ≤ items) where
+    -- its byte
+    low : 4 ≤ byte_at s at
+    low = (connects-code is b).0
+
+    high : byte_at s at ≤ 6
+    high = (connects-code is b).1
+
+    -- a connective without its first operand
+    pub expr-no-first : Reads (items - 1) s (at + 1) None → Reads items s at None
+    unfolding read_both bind
+    expr-no-first f = one-taken None p (λ n h. rw (join-reads n (items - 1) s at low high, f n (omega arith)))
+
+    -- a connective: what its second operand gives
+    pub expr-both : (r : Option Spot) {middle : Spot} → Reads (items - 1) s (at + 1) (Some middle) → Reads middle.items s middle.at r → Reads items s at r
+    expr-both r {middle} f g = one-taken r p (λ n h.
+        let a = f n (omega arith) in
+        joined n (items - 1) s at middle.at middle.items low high a r (g n (omega arith)))
+
+  -- no more items are left than there were
+  pub left-falls : {end : Spot} → Reads items s at (Some end) → end.items ≤ items
+  left-falls f = let a = f items (omega arith) in omega arith
 
 -- a schema, with the places of its clauses
 pub schema-found : (s : List ℕ) (at create detach consequent end : ℕ) → Found (item 2 4) s at (Some create) → Found read_clause s create (Some detach)

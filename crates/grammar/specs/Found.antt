@@ -1,11 +1,10 @@
 -- What a reader finds at a place of bytes, told by the place where it ends. The readers are the model's. Assumes nothing: these are definitions.
-use Rattle.std.specs.Prelude.{ℕ, ◌+◌, ◌≤◌, ◌<◌, ◌≡◌, List, length, drop, Option, Some, None}
+use Rattle.std.specs.Prelude.{ℕ, ◌+◌, ◌≤◌, ◌<◌, ◌≡◌, List, Option, Some, None, length, drop}
 use Rattle.std.proofs.Math.Option.{none, some}
 use Rattle.meaning.specs.Terms.{Expr}
 use Rattle.format.specs.Bytes.{Reader}
 use Rattle.format.specs.Grammar.{size, read_expr}
-use Rattle.grammar.specs.declared.ExpressionReading.{ExpressionReading}
-use Rattle.grammar.specs.declared.ExpressionReading.TheVariants as expression
+use Rattle.grammar.specs.declared.Spot.{Spot}
 
 -- something up to an end, or nothing
 abbrev pub Found : {A : Type 0} → Reader A → List ℕ → ℕ → Option ℕ → Type 0
@@ -17,7 +16,7 @@ abbrev pub StandsExpr : List ℕ → ℕ → ℕ → Type 0
 StandsExpr s at items = (x : Expr (List ℕ)) × (t : List ℕ) × (read_expr items items (drop at s) ≡ some (x, t))
 
 -- an expression up to an end, with so many items left of those that it may have, or none
-abbrev pub FoundExpr : ℕ → ℕ → List ℕ → ℕ → ExpressionReading → Type 0
-FoundExpr n items s at (expression.To end left) =
-    (x : Expr (List ℕ)) × (read_expr n items (drop at s) ≡ some (x, drop end s)) × (size x + left ≡ items) × (at < end) × (end ≤ length s)
-FoundExpr n items s at expression.Nothing = read_expr n items (drop at s) ≡ none
+abbrev pub FoundExpr : ℕ → ℕ → List ℕ → ℕ → Option Spot → Type 0
+FoundExpr n items s at (Some end) =
+    (x : Expr (List ℕ)) × (read_expr n items (drop at s) ≡ some (x, drop end.at s)) × (size x + end.items ≡ items) × (at < end.at) × (end.at ≤ length s)
+FoundExpr n items s at None = read_expr n items (drop at s) ≡ none

@@ -1,3 +1,4 @@
 -- What the readers of terms promise, over the model's readers.
+pub mod Items
 pub mod Found
 pub mod Places

@@ -1,10 +1,9 @@
 -- Where the clauses of each schema start. Assumes nothing: these are definitions.
-use Rattle.std.specs.Prelude.{ℕ, ◌+◌, ◌-◌, ◌*◌, ◌≤◌, ◌<◌, ◌≡◌, List, [], length, get_or, take, drop}
+use Rattle.std.specs.Prelude.{ℕ, ◌+◌, ◌-◌, ◌*◌, ◌≤◌, ◌<◌, ◌≡◌, List, [], Option, Some, None, length, get_or, take, drop}
 use Rattle.std.proofs.Math.Option.{none, some}
 use Rattle.meaning.specs.Terms.{always}
 use Rattle.format.specs.Grammar.{SchemaItems, read_clause, read_schema, file_of}
-use Rattle.grammar.specs.declared.SchemaReading.{SchemaReading}
-use Rattle.grammar.specs.declared.SchemaReading.TheVariants as schema_reading
+use Rattle.grammar.specs.declared.Clauses.{Clauses}
 use Rattle.grammar.specs.declared.Layout.{Layout}
 
 -- a schema's clauses start at three places and end at a fourth; its head's body stands right before the first
@@ -23,10 +22,10 @@ pub record ClausesAt (s : List ℕ) (x : SchemaItems) (create detach consequent 
   pub inside : end ≤ length s
 
 -- a schema read at a place, or none
-abbrev pub FoundSchema : List ℕ → ℕ → SchemaReading → Type 0
-FoundSchema s at (schema_reading.Is p) =
+abbrev pub FoundSchema : List ℕ → ℕ → Option Clauses → Type 0
+FoundSchema s at (Some p) =
     (x : SchemaItems) × (read_schema (drop at s) ≡ some (x, drop p.end s)) × ClausesAt s x p.create p.detach p.consequent p.end
-FoundSchema s at schema_reading.Nothing = read_schema (drop at s) ≡ none
+FoundSchema s at None = read_schema (drop at s) ≡ none
 
 -- past the last schema
 unfoldable pub no_items : SchemaItems

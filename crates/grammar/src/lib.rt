@@ -4,30 +4,9 @@
 ghost use Rattle.std.specs.Prelude.{◌≡◌, ℕ, ◌+◌, ◌*◌, ◌<◌, ◌≤◌, length, drop};
 ghost use Rattle.format.specs.Bytes.{byte_at, number_at, many, item};
 ghost use Rattle.format.specs.Grammar.{kinds_limit, read_clause, file_of};
+ghost use Rattle.grammar.specs.Items.{code_of, body_of, Names, ItemAt};
 ghost use Rattle.grammar.specs.Found.{Found, FoundExpr};
 ghost use Rattle.grammar.specs.Places.{FoundSchema, LaidOut};
-
-// The kind bytes of items.
-pub const KIND: u8 = 1;
-
-pub const SCHEMA: u8 = 2;
-
-pub const LEAF: u8 = 3;
-
-pub const AND: u8 = 4;
-
-pub const OR: u8 = 5;
-
-pub const EXCEPT: u8 = 6;
-
-pub const ALWAYS: u8 = 7;
-
-pub const COUNT: u8 = 8;
-
-// How many bytes the body of a leaf has, and that of a count.
-pub const LEAF_BODY: usize = 16;
-
-pub const COUNT_BODY: usize = 19;
 
 // The most items of an expression, event kinds and schemas.
 pub const EXPRESSION_LIMIT: usize = 31;
@@ -36,11 +15,62 @@ pub const KINDS_LIMIT: usize = 32;
 
 pub const SCHEMAS_LIMIT: usize = 16;
 
-// An expression read at a place: the place behind it, and how many items are left of those that it may have; or nothing.
+// The items of terms, each with its kind byte.
+#[derive(Clone, Copy, PartialEq, Eq)]
+pub enum Item {
+    Kind = 1,
+    Schema = 2,
+    Leaf = 3,
+    And = 4,
+    Or = 5,
+    Except = 6,
+    Always = 7,
+    Count = 8,
+}
+
+// A byte that is no item's kind byte.
+#[derive(Clone, Copy, PartialEq, Eq)]
+pub struct UnknownItem(pub u8);
+
+impl TryFrom<u8> for Item {
+    type Error = UnknownItem;
+
+    ghost try_from_gives = { Names };
+
+    fn try_from(byte: u8) -> Result<Self, UnknownItem> {
+        match byte {
+            1 => Ok(Item::Kind),
+            2 => Ok(Item::Schema),
+            3 => Ok(Item::Leaf),
+            4 => Ok(Item::And),
+            5 => Ok(Item::Or),
+            6 => Ok(Item::Except),
+            7 => Ok(Item::Always),
+            8 => Ok(Item::Count),
+            _ => Err(UnknownItem(byte)),
+        }
+    }
+}
+
+impl Item {
+    // How many bytes the item's body has.
+    pub fn body(self) -> usize
+        ensures { result ≡ body_of self }
+    {
+        match self {
+            Item::Kind | Item::Schema => 4,
+            Item::Leaf => 16,
+            Item::Count => 19,
+            Item::And | Item::Or | Item::Except | Item::Always => 0,
+        }
+    }
+}
+
+// A place of an expression, and how many items the expression may have; as an answer, the place behind it, and how many items are left.
 #[derive(Clone, Copy)]
-pub enum ExpressionReading {
-    To(usize, usize),
-    Nothing,
+pub struct Spot {
+    pub at: usize,
+    pub items: usize,
 }
 
 // Where the clauses of a schema start, and where the last one ends.
@@ -50,13 +80,6 @@ struct Clauses {
     detach: usize,
     consequent: usize,
     end: usize,
-}
-
-// A schema read at a place: where its clauses are; or nothing.
-#[derive(Clone, Copy)]
-enum SchemaReading {
-    Is(Clauses),
-    Nothing,
 }
 
 // What is read of terms: how many kinds and schemas, where the bytes left unread start, and where the clause of each rank starts.
@@ -69,20 +92,11 @@ pub struct Layout {
 }
 
 // The byte at a place; past the end it is 0.
+#[tactic(auto, unfolding(format::specs::Bytes::byte_at))]
 pub fn byte_at(s: &[u8], at: usize) -> u8
     ensures { result ≡ byte_at s.now at }
 {
-    if at < s.len() {
-        return s[at];
-    }
-    0
-}
-
-// A byte as a wider number.
-fn wide(b: u8) -> u32
-    ensures { (result ≡ b) × (result < 256) }
-{
-    b as u32
+    if at < s.len() { s[at] } else { 0 }
 }
 
 // The number in two bytes.
@@ -90,7 +104,7 @@ pub fn u16_at(s: &[u8], at: usize) -> u16
     requires { at + 2 ≤ length s.now }
     ensures { result ≡ number_at 2 s.now at }
 {
-    s[at] as u16 + s[at + 1] as u16 * 256
+    u16::from_le_bytes([s[at], s[at + 1]])
 }
 
 // The number in four bytes.
@@ -98,53 +112,46 @@ pub fn u32_at(s: &[u8], at: usize) -> u32
     requires { at + 4 ≤ length s.now }
     ensures { result ≡ number_at 4 s.now at }
 {
-    wide(s[at]) + wide(s[at + 1]) * 256 + wide(s[at + 2]) * 65536 + wide(s[at + 3]) * 16777216
+    u32::from_le_bytes([s[at], s[at + 1], s[at + 2], s[at + 3]])
 }
 
-// An item of a kind with a body of so many bytes, whatever they hold.
-fn read_item(s: &[u8], at: usize, kind: u8, body: usize) -> Option<usize>
-    ensures { Found (item kind body) s.now at result }
+// The item whose kind byte stands at a place, if an item has that byte.
+pub fn item_at(s: &[u8], at: usize) -> Option<Item>
+    ensures { ItemAt s.now at result }
 {
-    if s.len() <= at {
-        return None;
-    }
-    if s[at] != kind {
-        return None;
-    }
-    if s.len() - at - 1 < body {
-        return None;
-    }
-    Some(at + 1 + body)
+    Item::try_from(byte_at(s, at)).ok()
 }
 
-// An expression of at most so many items: a leaf, a count, always, or a connective and its two operands.
-pub fn read_expression(s: &[u8], at: usize, items: usize) -> ExpressionReading
-    ensures { (n : ℕ) → items ≤ n → FoundExpr n items s.now at result }
+// The end of an item of a kind, whatever its body holds.
+fn read_item(s: &[u8], at: usize, kind: Item) -> Option<usize>
+    ensures { Found (item (code_of kind) (body_of kind)) s.now at result }
 {
-    if items == 0 {
-        return ExpressionReading::Nothing;
+    if s.len() <= at || s[at] != kind as u8 || s.len() - at - 1 < kind.body() {
+        return None;
     }
-    match byte_at(s, at) {
-        LEAF => {
-            let Some(end) = read_item(s, at, LEAF, LEAF_BODY) else {
-                return ExpressionReading::Nothing;
-            };
-            ExpressionReading::To(end, items - 1)
+    Some(at + 1 + kind.body())
+}
+
+// An expression: a leaf, a count, always, or a connective and its two operands.
+pub fn read_expression(s: &[u8], spot: Spot) -> Option<Spot>
+    ensures { (n : ℕ) → spot.items ≤ n → FoundExpr n spot.items s.now spot.at result }
+{
+    let items = spot.items.checked_sub(1)?;
+    let item = item_at(s, spot.at)?;
+    match item {
+        Item::Leaf | Item::Always | Item::Count => {
+            let at = read_item(s, spot.at, item)?;
+            Some(Spot { at, items })
         }
-        AND | OR | EXCEPT => {
-            let ExpressionReading::To(middle, left) = read_expression(s, at + 1, items - 1) else {
-                return ExpressionReading::Nothing;
+        Item::And | Item::Or | Item::Except => {
+            let first = Spot {
+                at: spot.at + 1,
+                items,
             };
-            read_expression(s, middle, left)
+            let second = read_expression(s, first)?;
+            read_expression(s, second)
         }
-        ALWAYS => ExpressionReading::To(at + 1, items - 1),
-        COUNT => {
-            let Some(end) = read_item(s, at, COUNT, COUNT_BODY) else {
-                return ExpressionReading::Nothing;
-            };
-            ExpressionReading::To(end, items - 1)
-        }
-        _ => ExpressionReading::Nothing,
+        Item::Kind | Item::Schema => None,
     }
 }
 
@@ -152,29 +159,25 @@ pub fn read_expression(s: &[u8], at: usize, items: usize) -> ExpressionReading
 fn read_clause(s: &[u8], at: usize) -> Option<usize>
     ensures { Found read_clause s.now at result }
 {
-    let ExpressionReading::To(end, _) = read_expression(s, at, EXPRESSION_LIMIT) else {
-        return None;
-    };
-    Some(end)
+    let end = read_expression(
+        s,
+        Spot {
+            at,
+            items: EXPRESSION_LIMIT,
+        },
+    )?;
+    Some(end.at)
 }
 
 // A schema: its head, then create, detach and consequent.
-fn read_schema(s: &[u8], at: usize) -> SchemaReading
+fn read_schema(s: &[u8], at: usize) -> Option<Clauses>
     ensures { FoundSchema s.now at result }
 {
-    let Some(create) = read_item(s, at, SCHEMA, 4) else {
-        return SchemaReading::Nothing;
-    };
-    let Some(detach) = read_clause(s, create) else {
-        return SchemaReading::Nothing;
-    };
-    let Some(consequent) = read_clause(s, detach) else {
-        return SchemaReading::Nothing;
-    };
-    let Some(end) = read_clause(s, consequent) else {
-        return SchemaReading::Nothing;
-    };
-    SchemaReading::Is(Clauses {
+    let create = read_item(s, at, Item::Schema)?;
+    let detach = read_clause(s, create)?;
+    let consequent = read_clause(s, detach)?;
+    let end = read_clause(s, consequent)?;
+    Some(Clauses {
         create,
         detach,
         consequent,
@@ -186,14 +189,12 @@ fn read_schema(s: &[u8], at: usize) -> SchemaReading
 fn count_kinds(s: &[u8]) -> usize
     ensures { (result ≡ length (file_of s.now).kinds) × (drop (5 * result) s.now ≡ (many (item 1 4) kinds_limit s.now).1) × (5 * result ≤ length s.now) }
 {
-    let mut n: usize = 0;
-    while n < KINDS_LIMIT {
-        let Some(_) = read_item(s, 5 * n, KIND, 4) else {
+    for n in 0..KINDS_LIMIT {
+        let Some(_) = read_item(s, 5 * n, Item::Kind) else {
             return n;
         };
-        n += 1;
     }
-    n
+    KINDS_LIMIT
 }
 
 // The kinds, then the schemas, as far as they go.
@@ -201,28 +202,21 @@ pub fn read_layout(s: &[u8]) -> Layout
     ensures { LaidOut s.now result }
 {
     let kinds = count_kinds(s);
-    let mut rest = 5 * kinds;
-    let mut schemas: usize = 0;
-    let mut starts = [0usize; 48];
-    while schemas < SCHEMAS_LIMIT {
-        let SchemaReading::Is(found) = read_schema(s, rest) else {
-            return Layout {
-                kinds,
-                schemas,
-                rest,
-                starts,
-            };
-        };
-        starts[3 * schemas] = found.create;
-        starts[3 * schemas + 1] = found.detach;
-        starts[3 * schemas + 2] = found.consequent;
-        rest = found.end;
-        schemas += 1;
-    }
-    Layout {
+    let mut layout = Layout {
         kinds,
-        schemas,
-        rest,
-        starts,
+        schemas: 0,
+        rest: 5 * kinds,
+        starts: [0; 48],
+    };
+    for n in 0..SCHEMAS_LIMIT {
+        let Some(found) = read_schema(s, layout.rest) else {
+            return layout;
+        };
+        layout.starts[3 * n] = found.create;
+        layout.starts[3 * n + 1] = found.detach;
+        layout.starts[3 * n + 2] = found.consequent;
+        layout.rest = found.end;
+        layout.schemas = n + 1;
     }
+    layout
 }

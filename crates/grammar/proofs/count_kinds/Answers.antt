@@ -24,7 +24,7 @@ returns-in_default c =
     let s = c.args.s.now in
     let n = c.loop-n.n in
     let i = c.loop-n.invariant in
-    counted s n i.0 i.1 i.3 (so-far-none (item 1 4) kinds_limit s i.0 (drop (5 * n) s) (rw c.in_default.is at c.read_item.ensures) i.2)
+    counted s n i.0 i.1 i.3 (so-far-none (item 1 4) kinds_limit s i.0 (drop (5 * n) s) c.in_default.ensures i.2)
 
 pub loop-n-preserved : goal.loop-n-preserved
 unfolding kinds_limit
@@ -32,7 +32,7 @@ loop-n-preserved c =
     let s = c.args.s.now in
     let n = c.loop-n.n in
     let i = c.loop-n.invariant in
-    let found = rw c.in-Some.is at c.read_item.ensures in
+    let found = c.in-Some.ensures in
     let place : 5 * (n + 1) ≡ c.in-Some.field-0 = omega (arith, (item-ends 1 4 s (5 * n) c.in-Some.field-0 found.1 found.3).0) in
     (i.0 ++ (found.0 ∷ []), simp length-append (omega arith), rw place (so-far-step (item 1 4) kinds_limit s i.0 (drop (5 * n) s) (omega arith) found.1 i.2), omega arith)
 
@@ -40,6 +40,7 @@ pub returns : goal.returns
 unfolding kinds_limit
 returns c =
     let s = c.args.s.now in
-    let n = c.loop-n.n in
     let i = c.loop-n.invariant in
-    counted s n i.0 i.1 i.3 (so-far-full (item 1 4) kinds_limit s i.0 (drop (5 * n) s) (omega arith) i.2)
+    let all : c.loop-n.n ≡ 32 = omega arith in
+    let whole = counted s c.loop-n.n i.0 i.1 i.3 (so-far-full (item 1 4) kinds_limit s i.0 (drop (5 * c.loop-n.n) s) (omega arith) i.2) in
+    rw all at whole

@@ -1,5 +1,5 @@
--- What the loop of `count_kinds` keeps, and what falls.
-use Prim.Native.Nat.{ℕ, ◌-◌, ◌*◌, ◌≤◌}
+-- What the loop of `count_kinds` keeps.
+use Prim.Native.Nat.{ℕ, ◌*◌, ◌≤◌}
 use mathlib.Core.Path.{◌≡◌}
 use mathlib.Core.List.{List}
 use lib.ListN.{length, drop}
@@ -11,7 +11,3 @@ use Rattle.grammar.proofs.count_kinds.Given as goal
 -- so many kinds are done, each of five bytes, and the others are read behind them
 abbrev pub invariant-loop-n : goal.invariant-loop-n
 invariant-loop-n l = (done : List (List ℕ)) × (length done ≡ l.n) × SoFar (item 1 4) kinds_limit l.s done (drop (5 * l.n) l.s) × (5 * l.n ≤ length l.s)
-
--- the kinds that there may still be
-abbrev pub decreases-loop-n : goal.decreases-loop-n
-decreases-loop-n l = 32 - l.n

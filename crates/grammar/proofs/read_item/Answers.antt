@@ -1,20 +1,40 @@
 -- `read_item` meets its contract: one law of an item at a place for each answer. Assumes nothing.
 use native.Mathlib.Omega.{arith}
-use borrow.Author.Rules.{rules}
+use mathlib.Core.Path.{◌≡◌, refl, sym, ◌∙◌}
+use Prim.Native.Nat.{◌+◌}
+use denote.Enum.Declared.{tag_of}
 use Rattle.format.specs.Bytes.{byte_at}
 use Rattle.format.proofs.PlaceLaws.{item-here, item-past, item-other, item-short}
+use Rattle.grammar.specs.contracts.Item.{the_type}
+use Rattle.grammar.specs.declared.Item.{Item}
+use Rattle.grammar.specs.declared.Item.TheVariants.{Kind, Schema, Leaf, And, Or, Except, Always, Count}
+use Rattle.grammar.specs.Items.{code_of}
+use Rattle.grammar.proofs.read_item.Goals.{then-s-at-via-then-s-at, then-s-at-via-else-s-at+then-s-at-2, then-s-at-via-else-s-at+else-s-at-2+then-s-at-3}
 use Rattle.grammar.proofs.read_item.Goals as goal
 
+-- the kind byte, as the code takes it of the item
+code-is : (k : Item) → tag_of the_type k + 1 ≡ code_of k
+code-is Kind = refl
+code-is Schema = refl
+code-is Leaf = refl
+code-is And = refl
+code-is Or = refl
+code-is Except = refl
+code-is Always = refl
+code-is Count = refl
+
 pub returns-then-s-at : goal.returns-then-s-at
-returns-then-s-at c = search (item-past, rules)
-
-pub returns-then-s-at-2 : goal.returns-then-s-at-2
 unfolding byte_at
-returns-then-s-at-2 c = search (item-other, rules)
-
-pub returns-then-s-at-3 : goal.returns-then-s-at-3
-returns-then-s-at-3 c = let a = c.args in item-short a.kind a.body a.s.now a.at (omega arith)
+returns-then-s-at c =
+    let a = c.args in
+    elim c.then-s-at.branch [
+      | then-s-at-via-then-s-at w ↦ item-past _ _ a.s.now a.at (omega arith)
+      | then-s-at-via-else-s-at+then-s-at-2 w ↦ item-other _ _ a.s.now a.at (λ e. w.if-s-at-2.true (e ∙ sym (code-is a.kind)))
+      | then-s-at-via-else-s-at+else-s-at-2+then-s-at-3 w ↦ item-short _ _ a.s.now a.at (omega (arith, w.body.ensures))
+    ]
 
 pub returns : goal.returns
 unfolding byte_at
-returns c = (_, item-here _ _ _ _ (omega arith) (omega arith), omega arith, omega arith)
+returns c =
+    let a = c.args in
+    rw c.body-2.ensures (_, item-here _ _ a.s.now a.at (c.if-s-at-2.false ∙ code-is a.kind) (omega arith), omega arith, omega arith)

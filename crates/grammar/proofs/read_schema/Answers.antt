@@ -4,37 +4,26 @@ use Rattle.format.specs.Grammar.{read_schema}
 use Rattle.grammar.proofs.Steps.{schema-found}
 use Rattle.grammar.proofs.read_schema.Goals as goal
 
-pub returns-in_default : goal.returns-in_default
+pub returns-in_err-create : goal.returns-in_err-create
 unfolding read_schema bind
-returns-in_default c = rw (rw c.in_default.is at c.read_item.ensures)
+returns-in_err-create c = rw (c.from_residual.ensures, c.in_err-create.ensures)
 
-pub returns-in_default-read_clause : goal.returns-in_default-read_clause
+pub returns-in_err-detach : goal.returns-in_err-detach
 unfolding read_schema bind
-returns-in_default-read_clause c =
-    rw ((rw c.in-Some.is at c.read_item.ensures).1, rw c.in_default-read_clause.is at c.read_clause.ensures)
+returns-in_err-detach c = rw (c.from_residual-in_err-detach.ensures, c.in_ok-create.ensures.1, c.in_err-detach.ensures)
 
-pub returns-in_default-read_clause-2 : goal.returns-in_default-read_clause-2
+pub returns-in_err-consequent : goal.returns-in_err-consequent
 unfolding read_schema bind
-returns-in_default-read_clause-2 c =
-    rw (
-      (rw c.in-Some.is at c.read_item.ensures).1,
-      (rw c.in-Some-read_clause.is at c.read_clause.ensures).1,
-      rw c.in_default-read_clause-2.is at c.read_clause-2.ensures,
-    )
+returns-in_err-consequent c =
+    rw (c.from_residual-in_err-consequent.ensures, c.in_ok-create.ensures.1, c.in_ok-detach.ensures.1, c.in_err-consequent.ensures)
 
-pub returns-in_default-read_clause-3 : goal.returns-in_default-read_clause-3
+pub returns-in_err-end : goal.returns-in_err-end
 unfolding read_schema bind
-returns-in_default-read_clause-3 c =
-    rw (
-      (rw c.in-Some.is at c.read_item.ensures).1,
-      (rw c.in-Some-read_clause.is at c.read_clause.ensures).1,
-      (rw c.in-Some-read_clause-2.is at c.read_clause-2.ensures).1,
-      rw c.in_default-read_clause-3.is at c.read_clause-3.ensures,
-    )
+returns-in_err-end c =
+    rw (c.from_residual-in_err-end.ensures, c.in_ok-create.ensures.1, c.in_ok-detach.ensures.1, c.in_ok-consequent.ensures.1, c.in_err-end.ensures)
 
 pub returns : goal.returns
 returns c =
     let a = c.args in
-    schema-found a.s.now a.at c.in-Some.create c.in-Some-read_clause.detach c.in-Some-read_clause-2.consequent c.in-Some-read_clause-3.end
-    (rw c.in-Some.is at c.read_item.ensures) (rw c.in-Some-read_clause.is at c.read_clause.ensures)
-    (rw c.in-Some-read_clause-2.is at c.read_clause-2.ensures) (rw c.in-Some-read_clause-3.is at c.read_clause-3.ensures)
+    schema-found a.s.now a.at c.in_ok-create.create c.in_ok-detach.detach c.in_ok-consequent.consequent c.in_ok-end.end
+    c.in_ok-create.ensures c.in_ok-detach.ensures c.in_ok-consequent.ensures c.in_ok-end.ensures
