@@ -1,34 +1,47 @@
 -- What stands at a place of terms, by the byte there and, of a connective, by what the code reads behind it.
 --     no_items, no_kind, no_body      nothing is read
 --     first-unread, second-unread     the same where an operand of a connective is not read
---     both_read, operands-as          the operands of a connective
+--     both_read                       the operands of a connective
 -- Assumes nothing.
 use Prim.Native.Nat.{ℕ, suc, ◌+◌, ◌-◌, ◌≤◌, ◌<◌}
 use native.Mathlib.Omega.{arith}
 use mathlib.Core.Path.{◌≡◌, refl, sym, ◌∙◌}
 use mathlib.Core.List.{List}
+use mathlib.Core.Logic.{◌⊎◌, inl, inr}
 use mathlib.Core.Option.{Option, none, some}
 use lib.ListN.{length, drop}
 use Rattle.meaning.specs.declared.Atom.{Atom}
 use Rattle.meaning.specs.Terms.{Expr, leaf}
 use Rattle.format.specs.Bytes.{byte_at}
 use Rattle.format.specs.Grammar.{size, read_expr}
-use Rattle.format.specs.Fields.{neither, expr_at}
+use Rattle.format.specs.Fields.{neither, leaf_from, expr_at}
 use Rattle.format.proofs.ReaderLaws.{none-some, found-eq}
 use Rattle.format.proofs.GrammarLaws.{E, size-positive}
-use Rattle.format.proofs.PlaceLaws.{item-short}
-use Rattle.format.proofs.ExprLaws.{Joining, and-joins, or-joins, except-joins, joins, Parts, LeafItem, read-cut, join_is, expr-some, expr-none, expr-join}
-use Rattle.grammar.specs.declared.ExpressionReading.{ExpressionReading}
-use Rattle.grammar.specs.declared.ExpressionReading.TheVariants.{To, Nothing}
+use Rattle.format.proofs.PlaceLaws.{byte_inside, item-short}
+use Rattle.format.proofs.ExprLaws.{leaf-item, count-item, expr-leaf, Joining, and-joins, or-joins, except-joins, joins, Parts, LeafItem, read-cut, join_is, expr-some, expr-none, expr-join}
+use Rattle.std.specs.Prelude as std
+use Rattle.grammar.specs.declared.Item.{Item}
+use Rattle.grammar.specs.declared.Item.TheVariants.{Kind, Schema, Leaf, And, Or, Except, Always, Count}
+use Rattle.grammar.specs.declared.Spot.{Spot}
+use Rattle.grammar.specs.Items.{code_of, body_of}
 use Rattle.grammar.specs.Found.{FoundExpr}
 use Rattle.grammar.proofs.Steps.{expr-no-items, expr-no-kind}
-use Rattle.fields.specs.declared.Operands.{Operands}
-use Rattle.fields.specs.declared.Operands.TheVariants.{Second}
-use Rattle.fields.specs.Decoded.{JoinedAt, OperandsAt}
+use Rattle.fields.specs.Decoded.{LeafAt, leaf_item, JoinedAt, OperandsAt}
 
 -- what the reader of expressions promises, whatever depth the model's is allowed
-abbrev Reads : ℕ → List ℕ → ℕ → ExpressionReading → Type 0
+abbrev Reads : ℕ → List ℕ → ℕ → std.Option Spot → Type 0
 Reads items s at r = (n : ℕ) → items ≤ n → FoundExpr n items s at r
+
+-- the kind byte of an item is not what stands past the end
+some-code : (k : Item) → 1 ≤ code_of k
+some-code Kind = omega arith
+some-code Schema = omega arith
+some-code Leaf = omega arith
+some-code And = omega arith
+some-code Or = omega arith
+some-code Except = omega arith
+some-code Always = omega arith
+some-code Count = omega arith
 
 module _ (s : List ℕ) (at items : ℕ) where
   -- no items are left
@@ -43,6 +56,28 @@ module _ (s : List ℕ) (at items : ℕ) where
   pub no_body : {kind n : ℕ} → LeafItem kind n → byte_at s at ≡ kind → length s < at + suc n → expr_at s at items ≡ leaf neither
   no_body {kind} {n} is e l = expr-none items s at items (omega arith) (read-cut is items items s at e (item-short kind n s at (omega arith)))
 
+  -- an item's kind byte stands inside the bytes
+  pub inside : (k : Item) → code_of k ≡ byte_at s at → at < length s
+  inside k b = byte_inside s at (omega (arith, b, some-code k))
+
+  -- a leaf or a count that is cut off
+  pub leaf-unread : {k : Item} → (k ≡ Leaf) ⊎ (k ≡ Count) → code_of k ≡ byte_at s at → length s < at + suc (body_of k) → expr_at s at items ≡ leaf neither
+  leaf-unread (inl e) b l = no_body leaf-item (sym (rw e at b)) (rw e at l)
+  leaf-unread (inr e) b l = no_body count-item (sym (rw e at b)) (rw e at l)
+
+  -- one that is whole
+  pub leaf-read : {k : Item} → LeafAt s at k → 0 < items → expr_at s at items ≡ leaf (leaf_from (leaf_item s at k))
+  leaf-read {k} h p = go h.0
+    where
+      go : (k ≡ Leaf) ⊎ (k ≡ Count) → expr_at s at items ≡ leaf (leaf_from (leaf_item s at k))
+      go (inl e) = rw e (expr-leaf leaf-item s at items p (sym (rw e at h.1)) (rw e at h.2))
+      go (inr e) = rw e (expr-leaf count-item s at items p (sym (rw e at h.1)) (rw e at h.2))
+
+  -- no item of an expression
+  pub head_unread : {k : Item} → (k ≡ Kind) ⊎ (k ≡ Schema) → code_of k ≡ byte_at s at → expr_at s at items ≡ leaf neither
+  head_unread (inl e) b = let f : 1 ≡ byte_at s at = rw e at b in no_kind (λ low high. omega arith)
+  head_unread (inr e) b = let f : 2 ≡ byte_at s at = rw e at b in no_kind (λ low high. omega arith)
+
   -- a connective that cannot have been read
   unread : (low : 4 ≤ byte_at s at) (high : byte_at s at ≤ 6)
       → ((x : E) (t : List ℕ) → Parts (joins (byte_at s at) low high).join items s at x t → ⊥) → expr_at s at items ≡ leaf neither
@@ -52,49 +87,43 @@ module _ (s : List ℕ) (at items : ℕ) where
       go none e = expr-none items s at items (omega arith) e
       go (some f) e = absurd (out f.0 f.1 (join_is (joins (byte_at s at) low high).is items items s at f.0 f.1 refl e))
 
-  module _ {first : ExpressionReading} (read : Reads (items - 1) s (at + 1) first) where
-    -- the first operand is not read
-    pub first-unread : first ≡ Nothing → 4 ≤ byte_at s at → byte_at s at ≤ 6 → expr_at s at items ≡ leaf neither
-    first-unread e low high =
-        let missed : FoundExpr (items - 1) (items - 1) s (at + 1) Nothing = rw e at (read (items - 1) (omega arith)) in
-        unread low high (λ x t p. none-some (sym missed ∙ p.first))
+  -- the first operand is not read
+  pub first-unread : Reads (items - 1) s (at + 1) std.None → 4 ≤ byte_at s at → byte_at s at ≤ 6 → expr_at s at items ≡ leaf neither
+  first-unread read low high = unread low high (λ x t p. none-some (sym (read (items - 1) (omega arith)) ∙ p.first))
 
-    module _ {second left : ℕ} (e : first ≡ To second left) where
-      -- what is read of the first
-      before-second : FoundExpr (items - 1) (items - 1) s (at + 1) (To second left)
-      before-second = rw e at (read (items - 1) (omega arith))
+  module _ (second : Spot) (read : Reads (items - 1) s (at + 1) (std.Some second)) where
+    -- what is read of the first
+    before-second : FoundExpr (items - 1) (items - 1) s (at + 1) (std.Some second)
+    before-second = read (items - 1) (omega arith)
 
-      -- the items that it leaves
-      leaves-items : items - 1 - size before-second.0 ≡ left
-      leaves-items = omega (arith, before-second.2)
+    -- the items that it leaves
+    leaves-items : items - 1 - size before-second.0 ≡ second.items
+    leaves-items = omega (arith, before-second.2)
 
-      -- the second operand is not read
-      pub second-unread : {rest : ExpressionReading} → Reads left s second rest → rest ≡ Nothing → 4 ≤ byte_at s at → byte_at s at ≤ 6 → expr_at s at items ≡ leaf neither
-      second-unread more f low high =
-          let missed : FoundExpr left left s second Nothing = rw f at (more left (omega arith)) in
-          unread low high λ x t p.
-          let same = found-eq (sym p.first ∙ before-second.1) in
-          let count : items - 1 - size p.a ≡ left = rw same.0 leaves-items in
-          none-some (sym missed ∙ (rw (count, same.1) at p.second))
+    -- the second operand is not read
+    pub second-unread : Reads second.items s second.at std.None → 4 ≤ byte_at s at → byte_at s at ≤ 6 → expr_at s at items ≡ leaf neither
+    second-unread more low high =
+        unread low high λ x t p.
+        let same = found-eq (sym p.first ∙ before-second.1) in
+        let count : items - 1 - size p.a ≡ second.items = rw same.0 leaves-items in
+        none-some (sym (more second.items (omega arith)) ∙ (rw (count, same.1) at p.second))
 
-      -- a connective of the two
-      joined_at : {kind : ℕ} {join : E → E → E} {joined : Expr Atom → Expr Atom → Expr Atom} → Joining kind join joined
-          → (end behind : ℕ) → FoundExpr left left s second (To end behind) → byte_at s at ≡ kind → JoinedAt joined s at items second left
-      joined_at is end behind b k =
-          let a = before-second in
-          let q : read_expr left (items - 1 - size a.0) (drop second s) ≡ some (b.0, drop end s) = rw leaves-items b.1 in (
-            rw (expr-some (items - 1) s (at + 1) (items - 1) a.0 (drop second s) a.1, expr-some left s second left b.0 (drop end s) b.1)
-                (expr-join is (items - 1) left s at items a.0 b.0 (drop second s) (drop end s) k a.1 q),
-            omega (arith, a.3, a.4),
-            omega (arith, a.2, size-positive a.0),
-          )
+    -- a connective of the two
+    joined_at : {kind : ℕ} {join : E → E → E} {joined : Expr Atom → Expr Atom → Expr Atom} → Joining kind join joined → 0 < items
+        → (end : Spot) → FoundExpr second.items second.items s second.at (std.Some end) → byte_at s at ≡ kind
+        → JoinedAt joined s (record { at = at; items = items }) (record { at = at + 1; items = items - 1 }) second
+    joined_at is h end b k =
+        let a = before-second in
+        let q : read_expr second.items (items - 1 - size a.0) (drop second.at s) ≡ some (b.0, drop end.at s) = rw leaves-items b.1 in (
+          rw (expr-some (items - 1) s (at + 1) (items - 1) a.0 (drop second.at s) a.1, expr-some second.items s second.at second.items b.0 (drop end.at s) b.1)
+              (expr-join is (items - 1) second.items s at items a.0 b.0 (drop second.at s) (drop end.at s) k a.1 q),
+          omega arith,
+          omega (arith, a.2, size-positive a.0),
+        )
 
-      -- both are read, whichever of the three connectives it is
-      pub both_read : {rest : ExpressionReading} {end behind : ℕ} → Reads left s second rest → rest ≡ To end behind → OperandsAt s at items (Second second left)
-      both_read {end = end} {behind} more f =
-          let b : FoundExpr left left s second (To end behind) = rw f at (more left (omega arith)) in
-          (joined_at and-joins end behind b, joined_at or-joins end behind b, joined_at except-joins end behind b)
-
-  -- what is known of the operands, as the code told them
-  pub operands-as : {r : Operands} → OperandsAt s at items r → (o : Operands) → r ≡ o → OperandsAt s at items o
-  operands-as h o e = rw e at h
+    -- both are read, whichever of the three connectives it is
+    pub both_read : 0 < items → (end : Spot) → Reads second.items s second.at (std.Some end)
+        → OperandsAt s (record { at = at; items = items }) (std.Some (record { at = at + 1; items = items - 1 }, second))
+    both_read h end more =
+        let b : FoundExpr second.items second.items s second.at (std.Some end) = more second.items (omega arith) in
+        (joined_at and-joins h end b, joined_at or-joins h end b, joined_at except-joins h end b)

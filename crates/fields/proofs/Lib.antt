@@ -1,2 +1,3 @@
--- Proofs over the readings of expressions.
+-- Proofs over the readings of leaves and expressions.
+pub mod Leaves
 pub mod Expressions

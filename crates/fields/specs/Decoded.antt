@@ -1,49 +1,50 @@
 -- What a decoded event, bound or expression stands for in the model. Assumes nothing: these are definitions.
-use Rattle.std.specs.Prelude.{ℕ, ◌+◌, ◌-◌, ◌≤◌, ◌<◌, ◌≡◌, List, length}
-use Rattle.std.proofs.Math.Option.{Option, none, some}
-use Rattle.meaning.specs.declared.Event.{Event}
-use Rattle.meaning.specs.declared.Bound.{Bound}
+use Rattle.std.specs.Prelude.{ℕ, suc, ◌+◌, ◌≤◌, ◌<◌, ◌≡◌, ◌⊎◌, List, Option, Some, None, length, take, drop}
+use Rattle.std.proofs.Math.Option.{none, some}
+use Rattle.std.proofs.Math.Option as model
 use Rattle.meaning.specs.declared.Atom.{Atom}
 use Rattle.meaning.specs.Terms.{Expr, leaf, and, or, except, always}
 use Rattle.format.specs.Bytes.{byte_at}
 use Rattle.format.specs.Fields.{neither, expr_at}
-use Rattle.fields.specs.declared.EventForm.{EventForm}
-use Rattle.fields.specs.declared.EventForm.TheVariants as event_form
-use Rattle.fields.specs.declared.BoundForm.{BoundForm}
-use Rattle.fields.specs.declared.BoundForm.TheVariants as bound_form
-use Rattle.fields.specs.declared.Operands.{Operands}
-use Rattle.fields.specs.declared.Operands.TheVariants as operands
+use Rattle.grammar.specs.declared.Item.{Item}
+use Rattle.grammar.specs.declared.Item.TheVariants.{Leaf, Count}
+use Rattle.grammar.specs.declared.Spot.{Spot}
+use Rattle.grammar.specs.Items.{code_of, body_of}
 use Rattle.fields.specs.declared.Expression.{Expression}
 use Rattle.fields.specs.declared.Expression.TheVariants as expression
 
--- an event, if the form byte names one
-abbrev pub event_in : EventForm → Option Event
-event_in (event_form.Is e) = some e
-event_in event_form.NotAnEvent = none
+-- what is decoded, as the model has it
+abbrev pub decoded : {A : Type 0} → Option A → model.Option A
+decoded (Some x) = some x
+decoded None = none
 
--- a bound, if sign and form name one
-abbrev pub bound_in : BoundForm → Option Bound
-bound_in (bound_form.Is b) = some b
-bound_in bound_form.NotABound = none
+-- the item of a leaf stands whole at a place: an item 03 or 08
+abbrev pub LeafAt : List ℕ → ℕ → Item → Type 0
+LeafAt s at item = ((item ≡ Leaf) ⊎ (item ≡ Count)) × (code_of item ≡ byte_at s at) × (at + suc (body_of item) ≤ length s)
 
--- a connective at a place: its first operand stands after its byte, its second one at another place, with so many items left for it
-abbrev pub JoinedAt : (Expr Atom → Expr Atom → Expr Atom) → List ℕ → ℕ → ℕ → ℕ → ℕ → Type 0
-JoinedAt join s at items second left =
-    (expr_at s at items ≡ join (expr_at s (at + 1) (items - 1)) (expr_at s second left)) × (at < length s) × (left < items)
+-- its bytes
+abbrev pub leaf_item : List ℕ → ℕ → Item → List ℕ
+leaf_item s at item = take (suc (body_of item)) (drop at s)
 
--- the operands of the connective at a place, whichever of the three it is; nothing, where the whole cannot be read
-abbrev pub OperandsAt : List ℕ → ℕ → ℕ → Operands → Type 0
-OperandsAt s at items (operands.Second second left) =
-    (byte_at s at ≡ 4 → JoinedAt and s at items second left)
-    × (byte_at s at ≡ 5 → JoinedAt or s at items second left)
-    × (byte_at s at ≡ 6 → JoinedAt except s at items second left)
-OperandsAt s at items operands.Nothing = 4 ≤ byte_at s at → byte_at s at ≤ 6 → expr_at s at items ≡ leaf neither
+-- a connective at a place: its operands stand at two spots, with fewer items each
+abbrev pub JoinedAt : (Expr Atom → Expr Atom → Expr Atom) → List ℕ → Spot → Spot → Spot → Type 0
+JoinedAt join s spot first second =
+    (expr_at s spot.at spot.items ≡ join (expr_at s first.at first.items) (expr_at s second.at second.items))
+    × (first.items < spot.items) × (second.items < spot.items)
+
+-- the operands of the connective at a place, whichever of the three it is; none, where the whole cannot be read
+abbrev pub OperandsAt : List ℕ → Spot → Option (Spot × Spot) → Type 0
+OperandsAt s spot (Some p) =
+    (byte_at s spot.at ≡ 4 → JoinedAt and s spot p.0 p.1)
+    × (byte_at s spot.at ≡ 5 → JoinedAt or s spot p.0 p.1)
+    × (byte_at s spot.at ≡ 6 → JoinedAt except s spot p.0 p.1)
+OperandsAt s spot None = 4 ≤ byte_at s spot.at → byte_at s spot.at ≤ 6 → expr_at s spot.at spot.items ≡ leaf neither
 
 -- what the model reads at a place, case by case
-abbrev pub ExpressionAt : List ℕ → ℕ → ℕ → Expression → Type 0
-ExpressionAt s at items (expression.Leaf x) = expr_at s at items ≡ leaf x
-ExpressionAt s at items (expression.And second left) = JoinedAt and s at items second left
-ExpressionAt s at items (expression.Or second left) = JoinedAt or s at items second left
-ExpressionAt s at items (expression.Except second left) = JoinedAt except s at items second left
-ExpressionAt s at items expression.Always = expr_at s at items ≡ always
-ExpressionAt s at items expression.Nothing = expr_at s at items ≡ leaf neither
+abbrev pub ExpressionAt : List ℕ → Spot → Option Expression → Type 0
+ExpressionAt s spot (Some (expression.Leaf x)) = expr_at s spot.at spot.items ≡ leaf x
+ExpressionAt s spot (Some (expression.And first second)) = JoinedAt and s spot first second
+ExpressionAt s spot (Some (expression.Or first second)) = JoinedAt or s spot first second
+ExpressionAt s spot (Some (expression.Except first second)) = JoinedAt except s spot first second
+ExpressionAt s spot (Some expression.Always) = expr_at s spot.at spot.items ≡ always
+ExpressionAt s spot None = expr_at s spot.at spot.items ≡ leaf neither

@@ -4,15 +4,11 @@
 ghost use Rattle.std.specs.Prelude.{◌≡◌, ◌+◌, ◌*◌, ◌<◌, ◌≤◌, length, take, drop};
 ghost use Rattle.meaning.specs.Terms.{Terms, kind_at};
 ghost use Rattle.meaning.specs.Log.{carries};
-ghost use Rattle.format.specs.Bytes.{byte_at};
 ghost use Rattle.format.specs.Grammar.{file_of};
-ghost use Rattle.format.specs.Fields.{norm_type_of, event_of, bound_of, neither, leaf_from, kind_wrong, head_wrong, event_wrong, bound_wrong, leaf_wrong, terms_of};
-ghost use Rattle.fields.specs.Decoded.{event_in, bound_in, OperandsAt, ExpressionAt};
+ghost use Rattle.format.specs.Fields.{norm_type_of, event_of, bound_of, happening_of, count_of, neither, leaf_from, kind_wrong, head_wrong, event_wrong, bound_wrong, happening_wrong, count_wrong, leaf_wrong, terms_of};
+ghost use Rattle.fields.specs.Decoded.{decoded, LeafAt, leaf_item, OperandsAt, ExpressionAt};
 
-use grammar::{
-    ALWAYS, AND, COUNT, COUNT_BODY, EXCEPT, ExpressionReading, LEAF, LEAF_BODY, OR, byte_at,
-    read_expression, u16_at, u32_at,
-};
+use grammar::{Item, Spot, item_at, read_expression, u16_at, u32_at};
 use meaning::{Atom, Bound, CountLeaf, Event, Leaf, NormType, Stage};
 
 // The attributes that a mask has room for.
@@ -42,47 +38,21 @@ pub const PROHIBITION: u8 = 3;
 
 pub const POWER: u8 = 4;
 
-// What a form and a number name: an event, or none.
-#[derive(Clone, Copy)]
-pub enum EventForm {
-    Is(Event),
-    NotAnEvent,
-}
-
-// What seven bytes name: a bound, or none.
-#[derive(Clone, Copy)]
-pub enum BoundForm {
-    Is(Bound),
-    NotABound,
-}
-
-// What an expression at a place is: a leaf or a count; a connective, with the place of its second operand and how many items that one may have; always;
-// or nothing that can be read.
+// What an expression at a place is: a leaf or a count; a connective, with the spots of its two operands; or always.
 #[derive(Clone, Copy)]
 pub enum Expression {
     Leaf(Atom),
-    And(usize, usize),
-    Or(usize, usize),
-    Except(usize, usize),
+    And(Spot, Spot),
+    Or(Spot, Spot),
+    Except(Spot, Spot),
     Always,
-    Nothing,
-}
-
-// Where the second operand of a connective starts, and how many items it may have; or nothing, where one of the two can't be read.
-#[derive(Clone, Copy)]
-enum Operands {
-    Second(usize, usize),
-    Nothing,
 }
 
 // Whether a mask has an attribute.
 pub fn carries(mask: u16, attribute: u8) -> bool
     ensures { result ≡ carries mask attribute }
 {
-    if ATTRIBUTES <= attribute {
-        return false;
-    }
-    (mask >> attribute) & 1 == 1
+    attribute < ATTRIBUTES && (mask >> attribute) & 1 == 1
 }
 
 // The mask of a kind; past the last kind it is empty.
@@ -109,47 +79,69 @@ pub fn key_of(terms: &[u8], kinds: usize, kind: u8) -> u8
     terms[5 * k + 4]
 }
 
-// The event of a form and a number.
+// The event of a form and a number, if the form names one.
 #[tactic(auto, unfolding(format::specs::Fields::event_of, format::specs::Fields::stage_event))]
-fn event_of(form: u8, number: u8) -> EventForm
-    ensures { event_in result ≡ event_of form number }
+fn event_of(form: u8, number: u8) -> Option<Event>
+    ensures { decoded result ≡ event_of form number }
 {
     if form == KIND_FORM {
-        return EventForm::Is(Event::Kind(number));
+        return Some(Event::Kind(number));
     }
-    match Stage::try_from(form) {
-        Ok(stage) => EventForm::Is(Event::StageOf(stage, number)),
-        Err(_) => EventForm::NotAnEvent,
-    }
+    let stage = Stage::try_from(form).ok()?;
+    Some(Event::StageOf(stage, number))
 }
 
-// The bound at a place.
-fn bound_at(terms: &[u8], at: usize) -> BoundForm
+// The bound at a place, if its sign and the form of its event name one.
+#[tactic(auto, unfolding(format::specs::Fields::bound_of, format::specs::Bytes::byte_at))]
+fn bound_at(terms: &[u8], at: usize) -> Option<Bound>
     requires { at + 7 ≤ length terms.now }
-    ensures { bound_in result ≡ bound_of terms.now at }
+    ensures { decoded result ≡ bound_of terms.now at }
 {
     let event = event_of(terms[at + 1], terms[at + 2]);
     let offset = u32_at(terms, at + 3);
     match terms[at] {
-        PLAIN => BoundForm::Is(Bound::Plain(offset)),
-        PLUS => {
-            let EventForm::Is(e) = event else {
-                return BoundForm::NotABound;
-            };
-            BoundForm::Is(Bound::Plus(e, offset))
-        }
-        MINUS => {
-            let EventForm::Is(e) = event else {
-                return BoundForm::NotABound;
-            };
-            BoundForm::Is(Bound::Minus(e, offset))
-        }
-        OPEN => BoundForm::Is(Bound::Open),
-        _ => BoundForm::NotABound,
+        PLAIN => Some(Bound::Plain(offset)),
+        PLUS => Some(Bound::Plus(event?, offset)),
+        MINUS => Some(Bound::Minus(event?, offset)),
+        OPEN => Some(Bound::Open),
+        _ => None,
     }
 }
 
+// The event in a window whose item 03 starts at a place.
+fn happening_at(terms: &[u8], at: usize) -> Option<Atom>
+    requires { at + 17 ≤ length terms.now }
+    ensures { decoded result ≡ happening_of (take 17 (drop at terms.now)) }
+{
+    let event = event_of(terms[at + 1], terms[at + 2])?;
+    let lower = bound_at(terms, at + 3)?;
+    let upper = bound_at(terms, at + 10)?;
+    Some(Atom::Happens(Leaf {
+        event,
+        lower,
+        upper,
+    }))
+}
+
+// The count whose item 08 starts at a place.
+fn count_at(terms: &[u8], at: usize) -> Option<Atom>
+    requires { at + 20 ≤ length terms.now }
+    ensures { decoded result ≡ count_of (take 20 (drop at terms.now)) }
+{
+    let kind = terms[at + 1];
+    let threshold = u32_at(terms, at + 2);
+    let lower = bound_at(terms, at + 6)?;
+    let upper = bound_at(terms, at + 13)?;
+    Some(Atom::Counts(CountLeaf {
+        kind,
+        threshold,
+        lower,
+        upper,
+    }))
+}
+
 // A leaf that neither occurs nor fails: what stands for one that cannot be decoded.
+#[tactic(auto, unfolding(format::specs::Fields::neither))]
 fn no_leaf() -> Atom
     ensures { result ≡ neither }
 {
@@ -160,95 +152,62 @@ fn no_leaf() -> Atom
     })
 }
 
-// The leaf whose item 03 starts at a place.
-pub fn leaf_at(terms: &[u8], at: usize) -> Atom
-    requires { (byte_at terms.now at ≡ 3) × (at + 17 ≤ length terms.now) }
-    ensures { result ≡ leaf_from (take 17 (drop at terms.now)) }
+// The leaf whose item, 03 or 08, starts at a place.
+#[tactic(auto, unfolding(format::specs::Fields::leaf_from, format::specs::Fields::leaf_of))]
+pub fn leaf_at(terms: &[u8], at: usize, item: Item) -> Atom
+    requires { LeafAt terms.now at item }
+    ensures { result ≡ leaf_from (leaf_item terms.now at item) }
 {
-    let EventForm::Is(event) = event_of(terms[at + 1], terms[at + 2]) else {
-        return no_leaf();
+    let leaf = match item {
+        Item::Count => count_at(terms, at),
+        _ => happening_at(terms, at),
     };
-    let BoundForm::Is(lower) = bound_at(terms, at + 3) else {
-        return no_leaf();
-    };
-    let BoundForm::Is(upper) = bound_at(terms, at + 10) else {
-        return no_leaf();
-    };
-    Atom::Happens(Leaf {
-        event,
-        lower,
-        upper,
-    })
-}
-
-// The count whose item 08 starts at a place.
-pub fn count_at(terms: &[u8], at: usize) -> Atom
-    requires { (byte_at terms.now at ≡ 8) × (at + 20 ≤ length terms.now) }
-    ensures { result ≡ leaf_from (take 20 (drop at terms.now)) }
-{
-    let kind = terms[at + 1];
-    let threshold = u32_at(terms, at + 2);
-    let BoundForm::Is(lower) = bound_at(terms, at + 6) else {
-        return no_leaf();
-    };
-    let BoundForm::Is(upper) = bound_at(terms, at + 13) else {
-        return no_leaf();
-    };
-    Atom::Counts(CountLeaf {
-        kind,
-        threshold,
-        lower,
-        upper,
-    })
+    leaf.unwrap_or(no_leaf())
 }
 
 // The operands of the connective at a place: both are read.
-fn read_operands(terms: &[u8], at: usize, items: usize) -> Operands
-    requires { (at < length terms.now) × (0 < items) }
-    ensures { OperandsAt terms.now at items result }
+fn read_operands(terms: &[u8], spot: Spot) -> Option<(Spot, Spot)>
+    requires { (spot.at < length terms.now) × (0 < spot.items) }
+    ensures { OperandsAt terms.now spot result }
 {
-    let ExpressionReading::To(second, left) = read_expression(terms, at + 1, items - 1) else {
-        return Operands::Nothing;
+    let first = Spot {
+        at: spot.at + 1,
+        items: spot.items - 1,
     };
-    let ExpressionReading::To(_, _) = read_expression(terms, second, left) else {
-        return Operands::Nothing;
-    };
-    Operands::Second(second, left)
+    let second = read_expression(terms, first)?;
+    let _ = read_expression(terms, second)?;
+    Some((first, second))
 }
 
-// The expression of at most so many items at a place, by its item byte.
-pub fn expression_at(terms: &[u8], at: usize, items: usize) -> Expression
-    ensures { ExpressionAt terms.now at items result }
+// The expression of at most so many items at a place, by its item byte; none, if it cannot be read.
+pub fn expression_at(terms: &[u8], spot: Spot) -> Option<Expression>
+    ensures { ExpressionAt terms.now spot result }
 {
-    if items == 0 {
-        return Expression::Nothing;
+    if spot.items == 0 {
+        return None;
     }
-    let kind = byte_at(terms, at);
-    match kind {
-        LEAF => {
-            if terms.len() - at <= LEAF_BODY {
-                return Expression::Nothing;
+    let item = item_at(terms, spot.at)?;
+    match item {
+        Item::Leaf | Item::Count => {
+            if terms.len() - spot.at <= item.body() {
+                return None;
             }
-            Expression::Leaf(leaf_at(terms, at))
+            Some(Expression::Leaf(leaf_at(terms, spot.at, item)))
         }
-        AND | OR | EXCEPT => {
-            let Operands::Second(second, left) = read_operands(terms, at, items) else {
-                return Expression::Nothing;
-            };
-            match kind {
-                AND => Expression::And(second, left),
-                OR => Expression::Or(second, left),
-                _ => Expression::Except(second, left),
-            }
+        Item::And => {
+            let (first, second) = read_operands(terms, spot)?;
+            Some(Expression::And(first, second))
         }
-        ALWAYS => Expression::Always,
-        COUNT => {
-            if terms.len() - at <= COUNT_BODY {
-                return Expression::Nothing;
-            }
-            Expression::Leaf(count_at(terms, at))
+        Item::Or => {
+            let (first, second) = read_operands(terms, spot)?;
+            Some(Expression::Or(first, second))
         }
-        _ => Expression::Nothing,
+        Item::Except => {
+            let (first, second) = read_operands(terms, spot)?;
+            Some(Expression::Except(first, second))
+        }
+        Item::Always => Some(Expression::Always),
+        Item::Kind | Item::Schema => None,
     }
 }
 
@@ -270,11 +229,8 @@ pub fn kind_wrong(terms: &[u8], i: usize) -> bool
     ensures { result ≡ kind_wrong i (take 4 (drop (5 * i + 1) terms.now)) }
 {
     let number = terms[5 * i + 1];
-    if number as usize != i {
-        return true;
-    }
     let mask = u16_at(terms, 5 * i + 2);
-    if mask == 0 {
+    if number as usize != i || mask == 0 {
         return true;
     }
     !carries(mask, terms[5 * i + 4])
@@ -308,11 +264,9 @@ fn event_wrong(kinds: usize, form: u8, number: u8) -> bool
     ensures { (t : Terms) → kinds ≡ length t.kinds → result ≡ event_wrong t form number }
 {
     match event_of(form, number) {
-        EventForm::Is(event) => match event {
-            Event::Kind(kind) => kinds <= kind as usize,
-            Event::StageOf(_, _) => false,
-        },
-        EventForm::NotAnEvent => true,
+        Some(Event::Kind(kind)) => kinds <= kind as usize,
+        Some(Event::StageOf(_, _)) => false,
+        None => true,
     }
 }
 
@@ -326,10 +280,7 @@ fn bound_wrong(terms: &[u8], kinds: usize, at: usize) -> bool
     let offset = u32_at(terms, at + 3);
     match terms[at] {
         PLAIN => {
-            if form != 0 {
-                return true;
-            }
-            if number != 0 {
+            if form != 0 || number != 0 {
                 return true;
             }
             OFFSET_LIMIT < offset
@@ -341,10 +292,7 @@ fn bound_wrong(terms: &[u8], kinds: usize, at: usize) -> bool
             OFFSET_LIMIT < offset
         }
         OPEN => {
-            if form != 0 {
-                return true;
-            }
-            if number != 0 {
+            if form != 0 || number != 0 {
                 return true;
             }
             offset != 0
@@ -353,10 +301,10 @@ fn bound_wrong(terms: &[u8], kinds: usize, at: usize) -> bool
     }
 }
 
-// Refusal 3 at the leaf whose item 03 starts at a place; its lower bound is not open.
-pub fn leaf_wrong(terms: &[u8], kinds: usize, at: usize) -> bool
-    requires { (byte_at terms.now at ≡ 3) × (at + 17 ≤ length terms.now) }
-    ensures { (t : Terms) → kinds ≡ length t.kinds → result ≡ leaf_wrong t (take 17 (drop at terms.now)) }
+// Refusal 3 at the item 03 at a place; its lower bound is not open.
+fn happening_wrong(terms: &[u8], kinds: usize, at: usize) -> bool
+    requires { at + 17 ≤ length terms.now }
+    ensures { (t : Terms) → kinds ≡ length t.kinds → result ≡ happening_wrong t (take 17 (drop at terms.now)) }
 {
     if event_wrong(kinds, terms[at + 1], terms[at + 2]) {
         return true;
@@ -370,10 +318,10 @@ pub fn leaf_wrong(terms: &[u8], kinds: usize, at: usize) -> bool
     bound_wrong(terms, kinds, at + 10)
 }
 
-// Refusal 3 at the count whose item 08 starts at a place; any threshold is in range, and no bound is open.
-pub fn count_wrong(terms: &[u8], kinds: usize, at: usize) -> bool
-    requires { (byte_at terms.now at ≡ 8) × (at + 20 ≤ length terms.now) }
-    ensures { (t : Terms) → kinds ≡ length t.kinds → result ≡ leaf_wrong t (take 20 (drop at terms.now)) }
+// Refusal 3 at the item 08 at a place; any threshold is in range, and no bound is open.
+fn count_wrong(terms: &[u8], kinds: usize, at: usize) -> bool
+    requires { at + 20 ≤ length terms.now }
+    ensures { (t : Terms) → kinds ≡ length t.kinds → result ≡ count_wrong t (take 20 (drop at terms.now)) }
 {
     let kind = terms[at + 1];
     if kinds <= kind as usize {
@@ -389,4 +337,15 @@ pub fn count_wrong(terms: &[u8], kinds: usize, at: usize) -> bool
         return true;
     }
     bound_wrong(terms, kinds, at + 13)
+}
+
+// Refusal 3 at the leaf whose item, 03 or 08, starts at a place.
+pub fn leaf_wrong(terms: &[u8], kinds: usize, at: usize, item: Item) -> bool
+    requires { LeafAt terms.now at item }
+    ensures { (t : Terms) → kinds ≡ length t.kinds → result ≡ leaf_wrong t (leaf_item terms.now at item) }
+{
+    match item {
+        Item::Count => count_wrong(terms, kinds, at),
+        _ => happening_wrong(terms, kinds, at),
+    }
 }

@@ -1,41 +1,41 @@
--- `bound_wrong` meets its contract: each answer by the sign and the tests before it. Assumes nothing.
+-- `bound_wrong` meets its contract: each answer by the sign and the tests. Assumes nothing.
 use native.Mathlib.Omega.{arith}
+use mathlib.Core.Bool.{or-true}
 use borrow.Author.Tests.{eq-eqb, ne_eqb}
 use Rattle.format.specs.Bytes.{byte_at}
 use Rattle.format.specs.Fields.{not_zero, offset_limit, bound_wrong}
 use Rattle.format.proofs.PlaceLaws.{event-bound-wrong, no-bound-wrong}
+use Rattle.fields.proofs.bound_wrong.Goals.{then-form-ne0-via-then-form-ne0, then-form-ne0-via-else-form-ne0+then-number-ne0, then-form-ne0-2-via-then-form-ne0-2, then-form-ne0-2-via-else-form-ne0-2+then-number-ne0-2}
 use Rattle.fields.proofs.bound_wrong.Goals as goal
 
 pub returns-then-form-ne0 : goal.returns-then-form-ne0
 unfolding bound_wrong not_zero byte_at
-returns-then-form-ne0 c t h = rw (c.in-0.is, ne_eqb _ _ c.if-form-ne0.true)
-
-pub returns-then-number-ne0 : goal.returns-then-number-ne0
-unfolding bound_wrong not_zero byte_at
-returns-then-number-ne0 c t h = rw (c.in-0.is, eq-eqb _ _ c.if-form-ne0.false, ne_eqb _ _ c.if-number-ne0.true)
-
-pub returns-then-form-ne0-2 : goal.returns-then-form-ne0-2
-unfolding bound_wrong not_zero byte_at
-returns-then-form-ne0-2 c t h = rw (c.in-3.is, ne_eqb _ _ c.if-form-ne0-2.true)
-
-pub returns-then-number-ne0-2 : goal.returns-then-number-ne0-2
-unfolding bound_wrong not_zero byte_at
-returns-then-number-ne0-2 c t h = rw (c.in-3.is, eq-eqb _ _ c.if-form-ne0-2.false, ne_eqb _ _ c.if-number-ne0-2.true)
-
-pub returns-then-event_wrong : goal.returns-then-event_wrong
-unfolding byte_at
-returns-then-event_wrong c t h =
-    rw (event-bound-wrong t c.args.terms.now c.args.at (λ e. omega arith) (omega arith), ← c.event_wrong.ensures t h, c.if-event_wrong.true)
+returns-then-form-ne0 c t h = elim c.then-form-ne0.branch [
+  | then-form-ne0-via-then-form-ne0 w ↦ rw (c.in-0.is, ne_eqb _ _ w.if-form-ne0.true)
+  | then-form-ne0-via-else-form-ne0+then-number-ne0 w ↦ rw (c.in-0.is, ne_eqb _ _ w.if-number-ne0.true, or-true)
+]
 
 pub returns-else-number-ne0 : goal.returns-else-number-ne0
 unfolding bound_wrong not_zero offset_limit byte_at
 returns-else-number-ne0 c t h =
     rw (c.in-0.is, eq-eqb _ _ c.if-form-ne0.false, eq-eqb _ _ c.if-number-ne0.false, c.u32_at-offset.ensures)
 
+pub returns-then-form-ne0-2 : goal.returns-then-form-ne0-2
+unfolding bound_wrong not_zero byte_at
+returns-then-form-ne0-2 c t h = elim c.then-form-ne0-2.branch [
+  | then-form-ne0-2-via-then-form-ne0-2 w ↦ rw (c.in-3.is, ne_eqb _ _ w.if-form-ne0-2.true)
+  | then-form-ne0-2-via-else-form-ne0-2+then-number-ne0-2 w ↦ rw (c.in-3.is, ne_eqb _ _ w.if-number-ne0-2.true, or-true)
+]
+
 pub returns-else-number-ne0-2 : goal.returns-else-number-ne0-2
 unfolding bound_wrong not_zero byte_at
 returns-else-number-ne0-2 c t h =
     rw (c.in-3.is, eq-eqb _ _ c.if-form-ne0-2.false, eq-eqb _ _ c.if-number-ne0-2.false, c.u32_at-offset.ensures)
+
+pub returns-then-event_wrong : goal.returns-then-event_wrong
+unfolding byte_at
+returns-then-event_wrong c t h =
+    rw (event-bound-wrong t c.args.terms.now c.args.at (λ e. omega arith) (omega arith), ← c.event_wrong.ensures t h, c.if-event_wrong.true)
 
 pub returns-else-event_wrong : goal.returns-else-event_wrong
 unfolding offset_limit byte_at

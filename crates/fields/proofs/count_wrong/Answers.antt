@@ -6,7 +6,7 @@ use mathlib.Core.Bool.{true, false}
 use lib.Dec.{eqb}
 use borrow.Author.Tests.{le-leb, lt-leb, eq-eqb, ne_eqb}
 use Rattle.format.specs.Bytes.{byte_at}
-use Rattle.format.proofs.PlaceLaws.{count-wrong-here}
+use Rattle.fields.proofs.Leaves.{count-wrong-here}
 use Rattle.fields.proofs.count_wrong.Goals as goal
 
 pub overflow_cast-kind : goal.overflow_cast-kind
@@ -14,17 +14,17 @@ overflow_cast-kind c = omega (arith, c.type_inv.terms (c.args.at + 1))
 
 pub returns-then-kinds-kind : goal.returns-then-kinds-kind
 unfolding byte_at
-returns-then-kinds-kind c t h = rw (count-wrong-here t _ _ c.requires.0, ← h, le-leb _ _ c.if-kinds-kind.true)
+returns-then-kinds-kind c t h = rw (count-wrong-here t _ _, ← h, le-leb _ _ c.if-kinds-kind.true)
 
 pub returns-then-terms-at-eq-OPEN : goal.returns-then-terms-at-eq-OPEN
 unfolding byte_at
 returns-then-terms-at-eq-OPEN c t h =
-    rw (count-wrong-here t _ _ c.requires.0, ← h, lt-leb _ _ c.if-kinds-kind.false, eq-eqb _ _ c.if-terms-at-eq-OPEN.true)
+    rw (count-wrong-here t _ _, ← h, lt-leb _ _ c.if-kinds-kind.false, eq-eqb _ _ c.if-terms-at-eq-OPEN.true)
 
 pub returns-then-bound_wrong : goal.returns-then-bound_wrong
 unfolding byte_at
 returns-then-bound_wrong c t h =
-    rw (count-wrong-here t _ _ c.requires.0, ← h, lt-leb _ _ c.if-kinds-kind.false, ne_eqb _ _ c.if-terms-at-eq-OPEN.false, ← c.bound_wrong.ensures t h, c.if-bound_wrong.true)
+    rw (count-wrong-here t _ _, ← h, lt-leb _ _ c.if-kinds-kind.false, ne_eqb _ _ c.if-terms-at-eq-OPEN.false, ← c.bound_wrong.ensures t h, c.if-bound_wrong.true)
 
 pub returns-then-terms-at-eq-OPEN-2 : goal.returns-then-terms-at-eq-OPEN-2
 unfolding byte_at
@@ -32,7 +32,7 @@ returns-then-terms-at-eq-OPEN-2 c t h =
     let a = c.args in
     let is_open : eqb (byte_at a.terms.now (a.at + 13)) 3 ≡ true = eq-eqb _ _ c.if-terms-at-eq-OPEN-2.true in
     rw (
-      count-wrong-here t _ _ c.requires.0,
+      count-wrong-here t _ _,
       ← h,
       lt-leb _ _ c.if-kinds-kind.false,
       ne_eqb _ _ c.if-terms-at-eq-OPEN.false,
@@ -47,7 +47,7 @@ returns c t h =
     let a = c.args in
     let not-open : eqb (byte_at a.terms.now (a.at + 13)) 3 ≡ false = ne_eqb _ _ c.if-terms-at-eq-OPEN-2.false in
     rw (
-      count-wrong-here t _ _ c.requires.0,
+      count-wrong-here t _ _,
       ← h,
       lt-leb _ _ c.if-kinds-kind.false,
       ne_eqb _ _ c.if-terms-at-eq-OPEN.false,

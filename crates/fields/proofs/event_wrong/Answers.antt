@@ -2,13 +2,11 @@
 use Rattle.format.proofs.FieldLaws.{event-wrong-as}
 use Rattle.fields.proofs.event_wrong.Goals as goal
 
-pub returns-in-Kind : goal.returns-in-Kind
-returns-in-Kind c t h =
-    rw (event-wrong-as, ← c.event_of.ensures, c.in-Is.is, c.in-Kind.is, h)
+pub returns-in-Some-Kind : goal.returns-in-Some-Kind
+returns-in-Some-Kind c t h = rw (event-wrong-as, ← c.event_of.ensures, c.in-Some-Kind.is, c.in-Some-Kind.field-0-is, h)
 
-pub returns-in-StageOf : goal.returns-in-StageOf
-returns-in-StageOf c t h =
-    rw (event-wrong-as, ← c.event_of.ensures, c.in-Is.is, c.in-StageOf.is)
+pub returns-in-Some-StageOf : goal.returns-in-Some-StageOf
+returns-in-Some-StageOf c t h = rw (event-wrong-as, ← c.event_of.ensures, c.in-Some-StageOf.is, c.in-Some-StageOf.field-0-is)
 
-pub returns-in-NotAnEvent : goal.returns-in-NotAnEvent
-returns-in-NotAnEvent c t h = rw (event-wrong-as, ← c.event_of.ensures, c.in-NotAnEvent.is)
+pub returns-in-None : goal.returns-in-None
+returns-in-None c t h = rw (event-wrong-as, ← c.event_of.ensures, c.in-None.is)

@@ -1,40 +1,7 @@
--- `leaf_at` meets its contract: each answer by what is read so far. Assumes nothing.
-use Rattle.format.specs.Bytes.{byte_at}
-use Rattle.format.proofs.PlaceLaws.{leaf-here}
+-- `leaf_at` meets its contract, by the kind of leaf. Assumes nothing.
+use Rattle.fields.proofs.Leaves.{count-as, happening-as}
+use Rattle.fields.proofs.leaf_at.Goals.{in-Count, in_default}
 use Rattle.fields.proofs.leaf_at.Goals as goal
 
-pub returns-in_default : goal.returns-in_default
-unfolding byte_at
-returns-in_default c = rw (leaf-here _ _ c.requires.0, ← c.event_of.ensures, c.in_default.is, c.no_leaf.ensures)
-
-pub returns-in_default-bound_at : goal.returns-in_default-bound_at
-unfolding byte_at
-returns-in_default-bound_at c =
-    rw (leaf-here _ _ c.requires.0, ← c.event_of.ensures, c.in-Is.is, ← c.bound_at.ensures, c.in_default-bound_at.is, c.no_leaf-in_default-bound_at.ensures)
-
-pub returns-in_default-bound_at-2 : goal.returns-in_default-bound_at-2
-unfolding byte_at
-returns-in_default-bound_at-2 c =
-    rw (
-      leaf-here _ _ c.requires.0,
-      ← c.event_of.ensures,
-      c.in-Is.is,
-      ← c.bound_at.ensures,
-      c.in-Is-bound_at.is,
-      ← c.bound_at-2.ensures,
-      c.in_default-bound_at-2.is,
-      c.no_leaf-in_default-bound_at-2.ensures,
-    )
-
 pub returns : goal.returns
-unfolding byte_at
-returns c =
-    rw (
-      leaf-here _ _ c.requires.0,
-      ← c.event_of.ensures,
-      c.in-Is.is,
-      ← c.bound_at.ensures,
-      c.in-Is-bound_at.is,
-      ← c.bound_at-2.ensures,
-      c.in-Is-bound_at-2.is,
-    )
+returns c = rw (c.unwrap_or.ensures, c.no_leaf.ensures) (elim c.match-item.branch [ in-Count w ↦ rw w.leaf-is (count-as _ _ _ c.requires w.in-Count.is w.count_at-leaf.ensures) | in_default w ↦ rw w.leaf-is (happening-as _ _ _ c.requires w.in_default.not-Count w.happening_at-leaf.ensures) ])

@@ -1,32 +1,10 @@
--- `leaf_wrong` meets its contract: each answer by the tests before it. Assumes nothing.
-use borrow.Author.Tests.{eq-eqb, ne_eqb}
-use Rattle.format.specs.Bytes.{byte_at}
-use Rattle.format.proofs.PlaceLaws.{leaf-wrong-here}
+-- `leaf_wrong` meets its contract, by the kind of leaf. Assumes nothing.
+use mathlib.Core.Path.{sym, ◌∙◌}
+use Rattle.fields.proofs.Leaves.{wrong-count, wrong-happening}
 use Rattle.fields.proofs.leaf_wrong.Goals as goal
 
-pub returns-then-event_wrong : goal.returns-then-event_wrong
-unfolding byte_at
-returns-then-event_wrong c t h = rw (leaf-wrong-here t _ _ c.requires.0, ← c.event_wrong.ensures t h, c.if-event_wrong.true)
+pub returns-in-Count : goal.returns-in-Count
+returns-in-Count c t h = c.count_wrong.ensures t h ∙ sym (wrong-count t _ _ c.requires c.in-Count.is)
 
-pub returns-then-terms-at-eq-OPEN : goal.returns-then-terms-at-eq-OPEN
-unfolding byte_at
-returns-then-terms-at-eq-OPEN c t h =
-    rw (leaf-wrong-here t _ _ c.requires.0, ← c.event_wrong.ensures t h, c.if-event_wrong.false, eq-eqb _ _ c.if-terms-at-eq-OPEN.true)
-
-pub returns-then-bound_wrong : goal.returns-then-bound_wrong
-unfolding byte_at
-returns-then-bound_wrong c t h =
-    rw (leaf-wrong-here t _ _ c.requires.0, ← c.event_wrong.ensures t h, c.if-event_wrong.false, ne_eqb _ _ c.if-terms-at-eq-OPEN.false, ← c.bound_wrong.ensures t h, c.if-bound_wrong.true)
-
-pub returns : goal.returns
-unfolding byte_at
-returns c t h =
-    rw (
-      leaf-wrong-here t _ _ c.requires.0,
-      ← c.event_wrong.ensures t h,
-      c.if-event_wrong.false,
-      ne_eqb _ _ c.if-terms-at-eq-OPEN.false,
-      ← c.bound_wrong.ensures t h,
-      c.if-bound_wrong.false,
-      c.bound_wrong-2.ensures t h,
-    )
+pub returns-in_default : goal.returns-in_default
+returns-in_default c t h = c.happening_wrong.ensures t h ∙ sym (wrong-happening t _ _ c.requires c.in_default.not-Count)
