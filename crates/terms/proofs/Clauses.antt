@@ -1,5 +1,5 @@
 -- A question asked over an expression as the code reads it: one lemma for each answer.
---     stands_here, stands-leaf              an expression and its first item are within the bytes
+--     stands_here, stands-item, stands-leaf an expression and its first item are within the bytes
 --     leaf-found, leaf-past, always-past    at a leaf, and at always
 --     stands-first, stands-second           the operands of a connective stand behind its byte
 --     first_found, second_walks             at a connective
@@ -7,11 +7,12 @@
 -- Assumes nothing.
 use Prim.Native.Nat.{ℕ, suc, ◌+◌, ◌-◌, ◌≤◌, ◌<◌}
 use native.Mathlib.Omega.{arith}
-use mathlib.Core.Path.{◌≡◌, refl, ap, ◌∙◌}
+use mathlib.Core.Path.{◌≡◌, refl, ap, sym, ◌∙◌}
+use Rattle.format.proofs.ReaderLaws.{none-some}
 use mathlib.Core.Bool.{Bool, true, false, ◌||◌}
 use mathlib.Core.List.{List}
 use mathlib.Core.Option.{some}
-use lib.ListN.{length, take, drop}
+use lib.ListN.{length, drop}
 use Rattle.meaning.specs.Lists.{any_of}
 use Rattle.meaning.specs.Terms.{leaves}
 use Rattle.format.specs.Bytes.{byte_at}
@@ -19,11 +20,17 @@ use Rattle.format.specs.Grammar.{size, read_expr}
 use Rattle.format.specs.Fields.{terms_of}
 use Rattle.meaning.proofs.ListLaws.{any_append}
 use Rattle.format.proofs.GrammarLaws.{E, Connective, size-positive, expr-read}
-use Rattle.format.proofs.ExprLaws.{Joins, joins, Parts, LeafItem, read-inside, leaf-is, always-is, join_is}
+use Rattle.format.proofs.ExprLaws.{Joins, joins, Parts, LeafItem, leaf-item, count-item, read-inside, read_none, leaf-is, always-is, join_is}
 use Rattle.grammar.specs.Found.{StandsExpr}
 use Rattle.terms.specs.declared.Question.{Question}
-use Rattle.terms.specs.declared.Walked.{Walked}
-use Rattle.terms.specs.declared.Walked.TheVariants.{Found, To}
+use Rattle.std.specs.Prelude.{Option, Some, None}
+use mathlib.Core.Logic.{◌⊎◌, inl, inr}
+use Rattle.grammar.specs.declared.Item.{Item}
+use Rattle.grammar.specs.declared.Item.TheVariants.{Kind, Schema, Leaf, Always, Count}
+use Rattle.grammar.specs.declared.Spot.{Spot}
+use Rattle.grammar.specs.Items.{code_of, body_of}
+use Rattle.grammar.proofs.Steps.{Connects, connects-code}
+use Rattle.fields.specs.Decoded.{LeafAt, leaf_item}
 use Rattle.terms.specs.Questions.{asked_of_leaf, clause_has, WalkedOver, Walks}
 
 -- a connective has what either operand has
@@ -31,43 +38,63 @@ join-has : {kind : ℕ} {join : E → E → E} → Connective kind join → (s :
 unfolding clause_has
 join-has is s q a b = rw is.of-leaves (any_append (asked_of_leaf (terms_of s) q) (leaves a) (leaves b))
 
+-- the item of a leaf
+as-leaf : {item : Item} → (item ≡ Leaf) ⊎ (item ≡ Count) → LeafItem (code_of item) (body_of item)
+as-leaf (inl e) = rw e leaf-item
+as-leaf (inr e) = rw e count-item
+
 module _ (s : List ℕ) (at items : ℕ) (w : StandsExpr s at items) where
   -- it stands within the bytes, and has an item
   pub stands_here : (at < length s) × (1 ≤ items)
   stands_here = (read-inside items items s at w.0 w.1 w.2, omega (arith, (expr-read items items (drop at s) w.0 w.1 w.2).1, size-positive w.0))
 
+  -- its first byte is an item's
+  pub stands-item : (1 ≤ byte_at s at → byte_at s at ≤ 8 → ⊥) → ⊥
+  stands-item out = none-some (sym (read_none items items s at (λ low high. out (omega arith) high)) ∙ w.2)
+
   -- a leaf has its body
-  pub stands-leaf : {kind n : ℕ} → LeafItem kind n → byte_at s at ≡ kind → at + suc n ≤ length s
-  stands-leaf is e = (leaf-is items items s at w.0 w.1 w.2 is e).2
+  pub stands-leaf : {item : Item} → (item ≡ Leaf) ⊎ (item ≡ Count) → code_of item ≡ byte_at s at → LeafAt s at item
+  stands-leaf is e = (is, e, (leaf-is items items s at w.0 w.1 w.2 (as-leaf is) (sym e)).2)
 
 module _ (s : List ℕ) (q : Question) (at items : ℕ) where
-  module _ {kind n : ℕ} (is : LeafItem kind n) {b : Bool} (e : byte_at s at ≡ kind) (h : b ≡ asked_of_leaf (terms_of s) q (take (suc n) (drop at s))) where
+  module _ {item : Item} (is : LeafAt s at item) {b : Bool} (h : b ≡ asked_of_leaf (terms_of s) q (leaf_item s at item)) where
     -- a leaf that has it
-    pub leaf-found : b ≡ true → Walks s q at items Found
+    pub leaf-found : b ≡ true → Walks s q at items None
     unfolding clause_has leaves any_of
-    leaf-found b x t found = rw ((leaf-is items items s at x t found is e).0, ← h, b)
+    leaf-found b x t found = rw ((leaf-is items items s at x t found (as-leaf is.0) (sym is.1)).0, ← h, b)
 
     -- a leaf that has it not
-    pub leaf-past : b ≡ false → Walks s q at items (To (at + 1 + n) (items - 1))
+    pub leaf-past : b ≡ false → Walks s q at items (Some (record { at = at + 1 + body_of item; items = items - 1 }))
     unfolding clause_has leaves any_of size
     leaf-past b x t found =
-        let l = leaf-is items items s at x t found is e in
+        let l = leaf-is items items s at x t found (as-leaf is.0) (sym is.1) in
         let one : size x ≡ 1 = ap size l.0 in
-        let end : at + suc n ≡ at + 1 + n = omega arith in
-        (rw (l.0, ← h, b), rw (← end) l.1, omega arith, omega (arith, (expr-read items items (drop at s) x t found).1))
+        let end : at + suc (body_of item) ≡ at + 1 + body_of item = omega arith in
+        (rw (l.0, ← h, b), rw (← end) l.1, omega (arith, is.2), omega (arith, (expr-read items items (drop at s) x t found).1))
 
-  -- always
-  pub always-past : (3 ≤ byte_at s at → byte_at s at ≤ 6 → ⊥) → (byte_at s at ≡ 8 → ⊥) → at < length s → Walks s q at items (To (at + 1) (items - 1))
+  -- always: of the items that can be read, what is neither a leaf nor a connective
+  pub always-past : {item : Item} → (item ≡ Always) ⊎ ((item ≡ Kind) ⊎ (item ≡ Schema)) → code_of item ≡ byte_at s at → at < length s
+      → Walks s q at items (Some (record { at = at + 1; items = items - 1 }))
   unfolding clause_has leaves any_of size
-  always-past out no-count inside x t found =
-      let l = always-is items items s at x t found out no-count in
+  always-past {item} is e inside x t found =
+      let l = always-is items items s at x t found (λ low high. low-code is low high) (λ f. no-count is f) in
       let one : size x ≡ 1 = ap size l.0 in
       (rw l.0, l.1, omega arith, omega (arith, (expr-read items items (drop at s) x t found).1))
+    where
+      low-code : (item ≡ Always) ⊎ ((item ≡ Kind) ⊎ (item ≡ Schema)) → 3 ≤ byte_at s at → byte_at s at ≤ 6 → ⊥
+      low-code (inl g) low high = let f : 7 ≡ byte_at s at = rw g at e in omega arith
+      low-code (inr (inl g)) low high = let f : 1 ≡ byte_at s at = rw g at e in omega arith
+      low-code (inr (inr g)) low high = let f : 2 ≡ byte_at s at = rw g at e in omega arith
 
-  module _ (low : 4 ≤ byte_at s at) (high : byte_at s at ≤ 6) where
+      no-count : (item ≡ Always) ⊎ ((item ≡ Kind) ⊎ (item ≡ Schema)) → byte_at s at ≡ 8 → ⊥
+      no-count (inl g) h = let f : 7 ≡ byte_at s at = rw g at e in omega arith
+      no-count (inr (inl g)) h = let f : 1 ≡ byte_at s at = rw g at e in omega arith
+      no-count (inr (inr g)) h = let f : 2 ≡ byte_at s at = rw g at e in omega arith
+
+  module _ {item : Item} (is : Connects item) (here : code_of item ≡ byte_at s at) where
     -- the connective
     j : Joins (byte_at s at)
-    j = joins (byte_at s at) low high
+    j = joins (byte_at s at) (connects-code is here).0 (connects-code is here).1
 
     -- its operands
     parts : (x : E) (t : List ℕ) → read_expr items items (drop at s) ≡ some (x, t) → Parts j.join items s at x t
@@ -77,46 +104,45 @@ module _ (s : List ℕ) (q : Question) (at items : ℕ) where
     pub stands-first : StandsExpr s at items → StandsExpr s (at + 1) (items - 1)
     stands-first w = let p = parts w.0 w.1 w.2 in (p.a, p.u, p.first)
 
-    module _ {first : Walked} (walks : Walks s q (at + 1) (items - 1) first) where
-      -- the first has it
-      pub first_found : first ≡ Found → Walks s q at items Found
-      first_found e x t found =
+    -- the first has it
+    pub first_found : Walks s q (at + 1) (items - 1) None → Walks s q at items None
+    first_found walks x t found =
+        let p = parts x t found in
+        let has : clause_has s q p.a ≡ true = walks p.a p.u p.first in
+        rw (p.is, join-has j.is.is s q p.a p.b, has)
+
+    module _ (second : Spot) (walks : Walks s q (at + 1) (items - 1) (Some second)) where
+      -- what the first leaves
+      behind : (x : E) (t : List ℕ) (found : read_expr items items (drop at s) ≡ some (x, t)) → let p = parts x t found in
+          (clause_has s q p.a ≡ false) × (read_expr second.items second.items (drop second.at s) ≡ some (p.b, t)) × (size p.a + second.items ≡ items - 1)
+      behind x t found =
           let p = parts x t found in
-          let has : clause_has s q p.a ≡ true = rw e at (walks p.a p.u p.first) in
-          rw (p.is, join-has j.is.is s q p.a p.b, has)
+          let w : WalkedOver s q (items - 1) p.a p.u (Some second) = walks p.a p.u p.first in
+          let rest : items - 1 - size p.a ≡ second.items = omega arith in
+          (w.0, rw (← rest, ← w.1) p.second, w.3)
 
-      module _ {middle left : ℕ} (e : first ≡ To middle left) where
-        -- what the first leaves
-        behind : (x : E) (t : List ℕ) (found : read_expr items items (drop at s) ≡ some (x, t)) → let p = parts x t found in
-            (clause_has s q p.a ≡ false) × (read_expr left left (drop middle s) ≡ some (p.b, t)) × (size p.a + left ≡ items - 1)
-        behind x t found =
-            let p = parts x t found in
-            let w : WalkedOver s q (items - 1) p.a p.u (To middle left) = rw e at (walks p.a p.u p.first) in
-            let rest : items - 1 - size p.a ≡ left = omega arith in
-            (w.0, rw (← rest, ← w.1) p.second, w.3)
+      -- the second stands behind the first
+      pub stands-second : StandsExpr s at items → StandsExpr s second.at second.items
+      stands-second w = ((parts w.0 w.1 w.2).b, w.1, (behind w.0 w.1 w.2).1)
 
-        -- the second stands behind the first
-        pub stands-second : StandsExpr s at items → StandsExpr s middle left
-        stands-second w = ((parts w.0 w.1 w.2).b, w.1, (behind w.0 w.1 w.2).1)
+      -- fewer items are left for it
+      pub first-falls : StandsExpr s at items → second.items < items
+      first-falls w = omega (arith, (behind w.0 w.1 w.2).2, (expr-read items items (drop at s) w.0 w.1 w.2).1, size-positive w.0)
 
-        -- fewer items are left for it
-        pub first-falls : StandsExpr s at items → left < items
-        first-falls w = omega (arith, (behind w.0 w.1 w.2).2, (expr-read items items (drop at s) w.0 w.1 w.2).1, size-positive w.0)
+      -- what is found in the second
+      pub second_walks : (r : Option Spot) → Walks s q second.at second.items r → Walks s q at items r
+      second_walks r f x t found = go r (f p.b t l.1)
+        where
+          p : Parts j.join items s at x t
+          p = parts x t found
 
-        -- what is found in the second
-        pub second_walks : (r : Walked) → Walks s q middle left r → Walks s q at items r
-        second_walks r f x t found = go r (f p.b t l.1)
-          where
-            p : Parts j.join items s at x t
-            p = parts x t found
+          l : (clause_has s q p.a ≡ false) × (read_expr second.items second.items (drop second.at s) ≡ some (p.b, t)) × (size p.a + second.items ≡ items - 1)
+          l = behind x t found
 
-            l : (clause_has s q p.a ≡ false) × (read_expr left left (drop middle s) ≡ some (p.b, t)) × (size p.a + left ≡ items - 1)
-            l = behind x t found
+          same : clause_has s q x ≡ clause_has s q p.b
+          same = ap (clause_has s q) p.is ∙ join-has j.is.is s q p.a p.b ∙ ap (λ (b : Bool). b || clause_has s q p.b) l.0
 
-            same : clause_has s q x ≡ clause_has s q p.b
-            same = ap (clause_has s q) p.is ∙ join-has j.is.is s q p.a p.b ∙ ap (λ (b : Bool). b || clause_has s q p.b) l.0
-
-            go : (r : Walked) → WalkedOver s q left p.b t r → WalkedOver s q items x t r
-            go Found h = same ∙ h
-            go (To end rest) h =
-                (same ∙ h.0, h.1, h.2, omega (arith, l.2, ap size p.is, j.is.is.items p.a p.b, (expr-read items items (drop at s) x t found).1))
+          go : (r : Option Spot) → WalkedOver s q second.items p.b t r → WalkedOver s q items x t r
+          go None h = same ∙ h
+          go (Some end) h =
+              (same ∙ h.0, h.1, h.2, omega (arith, l.2, ap size p.is, j.is.is.items p.a p.b, (expr-read items items (drop at s) x t found).1))

@@ -1,18 +1,17 @@
 -- What is asked of each event, leaf, clause and schema of terms: refusals 3, 4 and 5 part by part. Assumes nothing: these are definitions.
-use Rattle.std.specs.Prelude.{ℕ, ◌+◌, ◌≤◌, ◌≡◌, Bool, true, false, ◌||◌, List, length, get_or, drop}
+use Rattle.std.specs.Prelude.{ℕ, ◌+◌, ◌≤◌, ◌≡◌, Bool, true, false, ◌||◌, List, Option, Some, None, length, get_or, drop}
 use Rattle.std.proofs.Math.Option.{some}
 use Rattle.meaning.specs.declared.Event.{Event}
 use Rattle.meaning.specs.Lists.{any_of}
 use Rattle.meaning.specs.Terms.{Terms, Expr, schema_at, leaves, leaf_events}
 use Rattle.format.specs.Grammar.{size, read_expr, file_of, read_clause}
 use Rattle.format.specs.Fields.{leaf_from, leaf_wrong, schema_wrong, cites_from, shares_none, cites_too_high, unshared_in, terms_of}
+use Rattle.grammar.specs.declared.Spot.{Spot}
 use Rattle.grammar.specs.Places.{no_items}
 use Rattle.terms.specs.declared.EventQuestion.{EventQuestion}
 use Rattle.terms.specs.declared.EventQuestion.TheVariants.{CitesFrom, SharesNone}
 use Rattle.terms.specs.declared.Question.{Question}
 use Rattle.terms.specs.declared.Question.TheVariants.{OutOfRange, SomeEvent}
-use Rattle.terms.specs.declared.Walked.{Walked}
-use Rattle.terms.specs.declared.Walked.TheVariants.{Found, To}
 use Rattle.terms.specs.declared.Fault.{Fault}
 use Rattle.terms.specs.declared.Fault.TheVariants.{Field, Citation, Unshared}
 
@@ -30,13 +29,13 @@ asked_of_leaf terms (SomeEvent q) item = any_of (asked terms q) (leaf_events (le
 unfoldable pub clause_has : List ℕ → Question → Expr (List ℕ) → Bool
 clause_has s q x = any_of (asked_of_leaf (terms_of s) q) (leaves x)
 
--- what a question finds in an expression of at most so many items, read with t after it: some leaf, or none and where the expression ends
-abbrev pub WalkedOver : List ℕ → Question → ℕ → Expr (List ℕ) → List ℕ → Walked → Type 0
-WalkedOver s q items x t Found = clause_has s q x ≡ true
-WalkedOver s q items x t (To end left) = (clause_has s q x ≡ false) × (t ≡ drop end s) × (end ≤ length s) × (size x + left ≡ items)
+-- what a question finds in an expression of at most so many items, read with t after it: some leaf has it, or none has and the expression ends at a place
+abbrev pub WalkedOver : List ℕ → Question → ℕ → Expr (List ℕ) → List ℕ → Option Spot → Type 0
+WalkedOver s q items x t None = clause_has s q x ≡ true
+WalkedOver s q items x t (Some end) = (clause_has s q x ≡ false) × (t ≡ drop end.at s) × (end.at ≤ length s) × (size x + end.items ≡ items)
 
 -- the same of the expression at a place
-abbrev pub Walks : List ℕ → Question → ℕ → ℕ → Walked → Type 0
+abbrev pub Walks : List ℕ → Question → ℕ → ℕ → Option Spot → Type 0
 Walks s q at items r = (x : Expr (List ℕ)) (t : List ℕ) → read_expr items items (drop at s) ≡ some (x, t) → WalkedOver s q items x t r
 
 -- a question about some leaf of each clause of the schema with a number

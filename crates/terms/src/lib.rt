@@ -4,18 +4,18 @@
 ghost use Rattle.std.specs.Prelude.{◌≡◌, List, ◌∷◌, ◌++◌, ℕ, ◌+◌, ◌-◌, ◌*◌, ◌<◌, ◌≤◌, length, get_or, take, drop};
 ghost use Rattle.meaning.specs.Lists.{numbers_from, any_of};
 ghost use Rattle.meaning.specs.Terms.{Expr, schema_at, kind_of, rank, bound_events, leaf_events};
-ghost use Rattle.format.specs.Bytes.{byte_at};
 ghost use Rattle.format.specs.Grammar.{file_of, breaks_grammar};
 ghost use Rattle.format.specs.Fields.{kinds_wrong, field_wrong, cites_from, shares_none, terms_of};
 ghost use Rattle.calls.specs.Answers.{checked_answer};
 ghost use Rattle.calls.specs.Calls.{check_terms};
 ghost use Rattle.grammar.specs.Found.{StandsExpr};
 ghost use Rattle.grammar.specs.Places.{Placed, LaidOut};
+ghost use Rattle.fields.specs.Decoded.{LeafAt, leaf_item};
 ghost use Rattle.terms.specs.Questions.{asked, asked_of_leaf, clause_has, Walks, clauses_have, ClauseAt, schema_has};
 
 use calls::Refusal;
 use fields::mask_of;
-use grammar::{AND, COUNT, COUNT_BODY, EXCEPT, EXPRESSION_LIMIT, LEAF, LEAF_BODY, Layout, OR};
+use grammar::{EXPRESSION_LIMIT, Item, Layout, Spot, item_at};
 use meaning::{Atom, Bound, Event, Stage};
 
 // The most bytes of terms.
@@ -34,13 +34,6 @@ pub enum EventQuestion {
 pub enum Question {
     OutOfRange,
     SomeEvent(EventQuestion),
-}
-
-// What a question finds in an expression: some leaf has it; or none has, and the expression ends at a place, with so many items left.
-#[derive(Clone, Copy)]
-enum Walked {
-    Found,
-    To(usize, usize),
 }
 
 // The fault of refusals 3, 4 and 5 at a schema.
@@ -200,83 +193,79 @@ fn some_event_has(
     }
 }
 
-// A question about the leaf whose item 03 starts at a place.
-fn leaf_has(terms: &[u8], kinds: usize, starts: &[usize], question: Question, at: usize) -> bool
-    requires { Placed terms.now kinds starts.now × (byte_at terms.now at ≡ 3) × (at + 17 ≤ length terms.now) }
-    ensures { result ≡ asked_of_leaf (terms_of terms.now) question (take 17 (drop at terms.now)) }
-{
-    match question {
-        Question::OutOfRange => fields::leaf_wrong(terms, kinds, at),
-        Question::SomeEvent(asked) => {
-            some_event_has(terms, kinds, starts, asked, fields::leaf_at(terms, at))
-        }
-    }
-}
-
-// A question about the count whose item 08 starts at a place.
-fn count_has(terms: &[u8], kinds: usize, starts: &[usize], question: Question, at: usize) -> bool
-    requires { Placed terms.now kinds starts.now × (byte_at terms.now at ≡ 8) × (at + 20 ≤ length terms.now) }
-    ensures { result ≡ asked_of_leaf (terms_of terms.now) question (take 20 (drop at terms.now)) }
-{
-    match question {
-        Question::OutOfRange => fields::count_wrong(terms, kinds, at),
-        Question::SomeEvent(asked) => {
-            some_event_has(terms, kinds, starts, asked, fields::count_at(terms, at))
-        }
-    }
-}
-
-// A question about some leaf of the expression of at most so many items at a place.
-fn expression_has(
+// A question about the leaf whose item, 03 or 08, starts at a place.
+fn leaf_has(
     terms: &[u8],
     kinds: usize,
     starts: &[usize],
     question: Question,
     at: usize,
-    items: usize,
-) -> Walked
-    requires { Placed terms.now kinds starts.now × StandsExpr terms.now at items }
-    ensures { Walks terms.now question at items result }
+    item: Item,
+) -> bool
+    requires { Placed terms.now kinds starts.now × LeafAt terms.now at item }
+    ensures { result ≡ asked_of_leaf (terms_of terms.now) question (leaf_item terms.now at item) }
 {
-    match terms[at] {
-        LEAF => {
-            if leaf_has(terms, kinds, starts, question, at) {
-                return Walked::Found;
-            }
-            Walked::To(at + 1 + LEAF_BODY, items - 1)
+    match question {
+        Question::OutOfRange => fields::leaf_wrong(terms, kinds, at, item),
+        Question::SomeEvent(asked) => {
+            some_event_has(
+                terms,
+                kinds,
+                starts,
+                asked,
+                fields::leaf_at(terms, at, item),
+            )
         }
-        COUNT => {
-            if count_has(terms, kinds, starts, question, at) {
-                return Walked::Found;
-            }
-            Walked::To(at + 1 + COUNT_BODY, items - 1)
-        }
-        AND | OR | EXCEPT => {
-            let first = expression_has(terms, kinds, starts, question, at + 1, items - 1);
-            let Walked::To(middle, left) = first else {
-                return Walked::Found;
-            };
-            expression_has(terms, kinds, starts, question, middle, left)
-        }
-        _ => Walked::To(at + 1, items - 1),
     }
 }
 
-// A question about some leaf of the clause at a place.
-fn clause_has(
+// A question about some leaf of an expression: none, if a leaf has it; or else where the expression ends, and how many items are left.
+fn expression_has(
     terms: &[u8],
     kinds: usize,
     starts: &[usize],
     question: Question,
-    start: usize,
-) -> bool
-    requires { Placed terms.now kinds starts.now × ((x : Expr (List ℕ)) × ClauseAt terms.now start x) }
-    ensures { (x : Expr (List ℕ)) → ClauseAt terms.now start x → result ≡ clause_has terms.now question x }
+    spot: Spot,
+) -> Option<Spot>
+    requires { Placed terms.now kinds starts.now × StandsExpr terms.now spot.at spot.items }
+    ensures { Walks terms.now question spot.at spot.items result }
 {
-    match expression_has(terms, kinds, starts, question, start, EXPRESSION_LIMIT) {
-        Walked::Found => true,
-        Walked::To(_, _) => false,
+    let item = item_at(terms, spot.at)?;
+    match item {
+        Item::Leaf | Item::Count => {
+            if leaf_has(terms, kinds, starts, question, spot.at, item) {
+                return None;
+            }
+            Some(Spot {
+                at: spot.at + 1 + item.body(),
+                items: spot.items - 1,
+            })
+        }
+        Item::And | Item::Or | Item::Except => {
+            let first = Spot {
+                at: spot.at + 1,
+                items: spot.items - 1,
+            };
+            let second = expression_has(terms, kinds, starts, question, first)?;
+            expression_has(terms, kinds, starts, question, second)
+        }
+        Item::Always | Item::Kind | Item::Schema => Some(Spot {
+            at: spot.at + 1,
+            items: spot.items - 1,
+        }),
     }
+}
+
+// A question about some leaf of the clause at a place.
+fn clause_has(terms: &[u8], kinds: usize, starts: &[usize], question: Question, at: usize) -> bool
+    requires { Placed terms.now kinds starts.now × ((x : Expr (List ℕ)) × ClauseAt terms.now at x) }
+    ensures { (x : Expr (List ℕ)) → ClauseAt terms.now at x → result ≡ clause_has terms.now question x }
+{
+    let clause = Spot {
+        at,
+        items: EXPRESSION_LIMIT,
+    };
+    expression_has(terms, kinds, starts, question, clause).is_none()
 }
 
 // A question about some leaf of each clause of the schema with a number.
@@ -351,12 +340,10 @@ fn some_schema_has(terms: &[u8], kinds: usize, starts: &[usize], fault: Fault) -
     requires { Placed terms.now kinds starts.now }
     ensures { result ≡ any_of (schema_has terms.now fault) (numbers_from 0 (length (file_of terms.now).schemas)) }
 {
-    let mut n: usize = 0;
-    while 3 * n < starts.len() {
+    for n in 0..starts.len() / 3 {
         if schema_has(terms, kinds, starts, fault, n) {
             return true;
         }
-        n += 1;
     }
     false
 }
@@ -366,12 +353,10 @@ fn some_kind_wrong(terms: &[u8], kinds: usize) -> bool
     requires { kinds ≡ length (file_of terms.now).kinds }
     ensures { result ≡ kinds_wrong (file_of terms.now) }
 {
-    let mut i: usize = 0;
-    while i < kinds {
+    for i in 0..kinds {
         if fields::kind_wrong(terms, i) {
             return true;
         }
-        i += 1;
     }
     false
 }
@@ -392,10 +377,7 @@ fn breaks_grammar(terms: &[u8], layout: Layout) -> bool
     requires { LaidOut terms.now layout }
     ensures { result ≡ breaks_grammar (file_of terms.now) }
 {
-    if layout.kinds == 0 {
-        return true;
-    }
-    if layout.schemas == 0 {
+    if layout.kinds == 0 || layout.schemas == 0 {
         return true;
     }
     layout.rest < terms.len()

@@ -1,118 +1,81 @@
 -- `expression_has` meets its contract: one step for each answer; the items fall at each call. Assumes nothing.
-use Prim.Native.Nat.{ℕ, ◌+◌, ◌≤◌, ◌<◌}
+use Prim.Native.Nat.{ℕ, ◌≤◌, ◌<◌}
 use native.Mathlib.Omega.{arith}
 use lib.ListN.{length}
-use Rattle.format.specs.Bytes.{byte_at}
-use Rattle.format.proofs.ExprLaws.{leaf-item, count-item}
-use Rattle.terms.proofs.Clauses.{stands_here, stands-leaf, leaf-found, leaf-past, always-past, stands-first, stands-second, first_found, first-falls, second_walks}
-use Rattle.terms.proofs.+expression_has.Goals.{In-3, In-8, Start, in_default-via-then-this-lt3, in_default-via-else-this-lt3+else-this-lt7}
+use Rattle.terms.proofs.Clauses.{stands_here, stands-item, stands-leaf, leaf-found, leaf-past, always-past, stands-first, stands-second, first_found, first-falls, second_walks}
+use Rattle.fields.specs.Decoded.{LeafAt}
+use Rattle.terms.proofs.+expression_has.Goals.{In-Leaf, Start}
 use Rattle.terms.proofs.+expression_has.Goals as goal
 
 -- the expression and its first item are within the bytes
-here : (t : ℕ) (a : Start t) → (a.args.at < length a.args.terms.now) × (1 ≤ a.args.items)
+here : (t : ℕ) (a : Start t) → (a.args.spot.at < length a.args.terms.now) × (1 ≤ a.args.spot.items)
 here t a = stands_here _ _ _ a.requires.1
 
 -- so is a leaf
-leaf-here : (t : ℕ) (c : In-3 t) → let a = c.args in a.at + 17 ≤ length a.terms.now
-unfolding byte_at
-leaf-here t c = stands-leaf _ _ _ c.requires.1 leaf-item c.in-3.is
+leaf-here : (t : ℕ) (c : In-Leaf t) → LeafAt c.args.terms.now c.args.spot.at c.in_ok-item.item
+leaf-here t c = stands-leaf _ _ _ c.requires.1 c.in-Leaf.is c.in_ok-item.ensures
 
--- and a count
-count-here : (t : ℕ) (c : In-8 t) → let a = c.args in a.at + 20 ≤ length a.terms.now
-unfolding byte_at
-count-here t c = stands-leaf _ _ _ c.requires.1 count-item c.in-8.is
-
-pub bounds-terms-at : goal.bounds-terms-at
-bounds-terms-at t c = (here t (goal.at.bounds-terms-at t c).Start).0
+pub returns-in_err-item : goal.returns-in_err-item
+returns-in_err-item t c = absurd (stands-item _ _ _ c.requires.1 c.in_err-item.ensures)
 
 pub leaf_has-requires : goal.leaf_has-requires
-unfolding byte_at
-leaf_has-requires t c = (c.requires.0, c.in-3.is, leaf-here t c)
+leaf_has-requires t c = (c.requires.0, leaf-here t c)
 
 pub returns-then-leaf_has : goal.returns-then-leaf_has
-unfolding byte_at
 returns-then-leaf_has t c =
     let a = c.args in
-    leaf-found _ _ a.at a.items leaf-item c.in-3.is c.leaf_has.ensures c.if-leaf_has.true
+    leaf-found _ _ a.spot.at a.spot.items (leaf-here t (goal.at.returns-then-leaf_has t c).In-Leaf) c.leaf_has.ensures c.if-leaf_has.true
 
 pub overflow_add-result : goal.overflow_add-result
-overflow_add-result t c = omega (arith, leaf-here t (goal.at.overflow_add-result t c).In-3)
+overflow_add-result t c = omega (arith, here t (goal.at.overflow_add-result t c).Start)
 
-pub overflow_add-result-in-3 : goal.overflow_add-result-in-3
-overflow_add-result-in-3 t c = omega (arith, leaf-here t (goal.at.overflow_add-result-in-3 t c).In-3)
+pub overflow_add-result-in-Leaf : goal.overflow_add-result-in-Leaf
+overflow_add-result-in-Leaf t c = omega (arith, c.body.ensures, (leaf-here t (goal.at.overflow_add-result-in-Leaf t c).In-Leaf).2)
 
 pub overflow_sub-result : goal.overflow_sub-result
 overflow_sub-result t c = omega (arith, here t (goal.at.overflow_sub-result t c).Start)
 
-pub count_has-requires : goal.count_has-requires
-unfolding byte_at
-count_has-requires t c = (c.requires.0, c.in-8.is, count-here t c)
+pub overflow_add-first : goal.overflow_add-first
+overflow_add-first t c = omega (arith, here t (goal.at.overflow_add-first t c).Start)
 
-pub returns-then-count_has : goal.returns-then-count_has
-unfolding byte_at
-returns-then-count_has t c =
-    let a = c.args in
-    leaf-found _ _ a.at a.items count-item c.in-8.is c.count_has.ensures c.if-count_has.true
-
-pub overflow_add-result-in-8 : goal.overflow_add-result-in-8
-overflow_add-result-in-8 t c = omega (arith, count-here t (goal.at.overflow_add-result-in-8 t c).In-8)
-
-pub overflow_add-result-in-8-2 : goal.overflow_add-result-in-8-2
-overflow_add-result-in-8-2 t c = omega (arith, count-here t (goal.at.overflow_add-result-in-8-2 t c).In-8)
-
-pub overflow_sub-result-in-8 : goal.overflow_sub-result-in-8
-overflow_sub-result-in-8 t c = omega (arith, here t (goal.at.overflow_sub-result-in-8 t c).Start)
-
-pub overflow_add-at : goal.overflow_add-at
-overflow_add-at t c = omega (arith, here t (goal.at.overflow_add-at t c).Start)
-
-pub overflow_sub-items : goal.overflow_sub-items
-overflow_sub-items t c = omega (arith, here t (goal.at.overflow_sub-items t c).Start)
-
-pub expression_has-first-requires : goal.expression_has-first-requires
-unfolding byte_at
-expression_has-first-requires t c = (omega (arith, here t (goal.at.expression_has-first-requires t c).Start), (c.requires.0, stands-first _ c.args.question c.args.at c.args.items (omega arith) (omega arith) c.requires.1))
-
-pub returns-in_default-first : goal.returns-in_default-first
-unfolding byte_at
-returns-in_default-first t c =
-    let a = c.args in
-    first_found _ _ a.at a.items (omega arith) (omega arith) c.expression_has-first.ensures c.in_default-first.is
+pub overflow_sub-first : goal.overflow_sub-first
+overflow_sub-first t c = omega (arith, here t (goal.at.overflow_sub-first t c).Start)
 
 pub expression_has-requires : goal.expression_has-requires
-unfolding byte_at
 expression_has-requires t c =
+    (omega (arith, here t (goal.at.expression_has-requires t c).Start), (c.requires.0, stands-first _ c.args.question _ _ c.in-And.is c.in_ok-item.ensures c.requires.1))
+
+pub returns-in_err-second-in-And : goal.returns-in_err-second-in-And
+returns-in_err-second-in-And t c =
+    let a = c.args in
+    rw c.from_residual-in_err-second-in-And.ensures (first_found _ _ a.spot.at a.spot.items c.in-And.is c.in_ok-item.ensures c.in_err-second-in-And.ensures)
+
+pub expression_has-requires-in-And : goal.expression_has-requires-in-And
+expression_has-requires-in-And t c =
+    let a = c.args in
     let w = c.requires.1 in
-    let walks = c.expression_has-first.ensures in (
-      omega (arith, first-falls _ _ c.args.at c.args.items (omega arith) (omega arith) walks c.in-To.is w),
-      (c.requires.0, stands-second _ _ c.args.at c.args.items (omega arith) (omega arith) walks c.in-To.is w),
+    let second = c.in_ok-second-in-And.second in (
+      omega (arith, first-falls _ a.question a.spot.at a.spot.items c.in-And.is c.in_ok-item.ensures second c.in_ok-second-in-And.ensures w),
+      (c.requires.0, stands-second _ a.question a.spot.at a.spot.items c.in-And.is c.in_ok-item.ensures second c.in_ok-second-in-And.ensures w),
     )
 
-pub overflow_add-result-in_default : goal.overflow_add-result-in_default
-overflow_add-result-in_default t c = omega (arith, here t (goal.at.overflow_add-result-in_default t c).Start)
+pub overflow_add-result-in-Always : goal.overflow_add-result-in-Always
+overflow_add-result-in-Always t c = omega (arith, here t (goal.at.overflow_add-result-in-Always t c).Start)
 
-pub overflow_sub-result-in_default : goal.overflow_sub-result-in_default
-overflow_sub-result-in_default t c = omega (arith, here t (goal.at.overflow_sub-result-in_default t c).Start)
+pub overflow_sub-result-in-Always : goal.overflow_sub-result-in-Always
+overflow_sub-result-in-Always t c = omega (arith, here t (goal.at.overflow_sub-result-in-Always t c).Start)
 
 pub returns-else-leaf_has : goal.returns-else-leaf_has
-unfolding byte_at
 returns-else-leaf_has t c =
     let a = c.args in
-    leaf-past _ _ a.at a.items leaf-item c.in-3.is c.leaf_has.ensures c.if-leaf_has.false
+    rw c.body.ensures (leaf-past _ _ a.spot.at a.spot.items (leaf-here t (goal.at.returns-else-leaf_has t c).In-Leaf) c.leaf_has.ensures c.if-leaf_has.false)
 
-pub returns-else-count_has : goal.returns-else-count_has
-unfolding byte_at
-returns-else-count_has t c =
+pub returns-in_ok-second-in-And : goal.returns-in_ok-second-in-And
+returns-in_ok-second-in-And t c =
     let a = c.args in
-    leaf-past _ _ a.at a.items count-item c.in-8.is c.count_has.ensures c.if-count_has.false
+    second_walks _ _ a.spot.at a.spot.items c.in-And.is c.in_ok-item.ensures c.in_ok-second-in-And.second c.in_ok-second-in-And.ensures c.expression_has-in-And.result c.expression_has-in-And.ensures
 
-pub returns-in-To : goal.returns-in-To
-unfolding byte_at
-returns-in-To t c =
+pub returns-in-Always : goal.returns-in-Always
+returns-in-Always t c =
     let a = c.args in
-    second_walks _ _ a.at a.items (omega arith) (omega arith) c.expression_has-first.ensures c.in-To.is c.expression_has.result c.expression_has.ensures
-
-pub returns-in_default : goal.returns-in_default
-unfolding byte_at
-returns-in_default t c =
-    always-past _ _ c.args.at c.args.items (λ low high. elim c.in_default.branch [ in_default-via-then-this-lt3 w ↦ omega arith | in_default-via-else-this-lt3+else-this-lt7 w ↦ omega arith ]) (λ e. omega arith) (here t (goal.at.returns-in_default t c).Start).0
+    always-past _ _ a.spot.at a.spot.items c.in-Always.is c.in_ok-item.ensures (here t (goal.at.returns-in-Always t c).Start).0

@@ -1,16 +1,27 @@
 -- `clause_has` meets its contract: a clause is an expression within the grammar's count. Assumes nothing.
-use mathlib.Core.Path.{sym}
+use Prim.Native.Nat.{ℕ}
+use mathlib.Core.Path.{◌≡◌, sym}
+use mathlib.Core.Bool.{Bool, true, false, not}
+use mathlib.Core.List.{List}
+use Rattle.std.specs.Prelude.{Option, Some, None, is_some}
+use Rattle.meaning.specs.Terms.{Expr}
 use Rattle.format.specs.Grammar.{expr_limit, read_clause}
+use Rattle.grammar.specs.declared.Spot.{Spot}
+use Rattle.terms.specs.declared.Question.{Question}
+use Rattle.terms.specs.Questions.{clause_has, WalkedOver}
 use Rattle.terms.proofs.clause_has.Goals as goal
+
+-- the walk found a leaf, or went past all
+told : (s : List ℕ) (q : Question) (items : ℕ) (x : Expr (List ℕ)) (t : List ℕ) (r : Option Spot) (b : Bool) → WalkedOver s q items x t r → is_some r ≡ not b → b ≡ clause_has s q x
+told s q items x t None true h e = sym h
+told s q items x t None false h e = cc
+told s q items x t (Some end) true h e = cc
+told s q items x t (Some end) false h e = sym h.0
 
 pub expression_has-requires : goal.expression_has-requires
 unfolding read_clause expr_limit
 expression_has-requires c = (c.requires.0, (c.requires.1.0, c.requires.1.1.0, c.requires.1.1.1))
 
-pub returns-in-Found : goal.returns-in-Found
+pub returns : goal.returns
 unfolding read_clause expr_limit
-returns-in-Found c x e = sym (rw c.in-Found.is at (c.expression_has.ensures x e.0 e.1))
-
-pub returns-in-To : goal.returns-in-To
-unfolding read_clause expr_limit
-returns-in-To c x e = sym (rw c.in-To.is at (c.expression_has.ensures x e.0 e.1)).0
+returns c x e = told _ _ _ x e.0 _ _ (c.expression_has.ensures x e.0 e.1) c.is_none.ensures

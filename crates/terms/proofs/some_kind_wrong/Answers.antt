@@ -17,7 +17,7 @@ wrong-here : (s : List ℕ) (i : ℕ) (b : Bool) → i < length (file_of s).kind
 wrong-here s i b h e = ap (kind_wrong i) (kind-here s i h).0 ∙ sym e
 
 pub loop-i-init : goal.loop-i-init
-loop-i-init c = (omega arith, left-start _ _)
+loop-i-init c = left-start _ _
 
 pub kind_wrong-requires : goal.kind_wrong-requires
 kind_wrong-requires c = omega (arith, (kind-here c.args.terms.now c.loop-i.i (omega arith)).1)
@@ -25,18 +25,12 @@ kind_wrong-requires c = omega (arith, (kind-here c.args.terms.now c.loop-i.i (om
 pub returns-then-kind_wrong : goal.returns-then-kind_wrong
 unfolding kinds_wrong
 returns-then-kind_wrong c =
-    left-found _ _ c.loop-i.i c.loop-i.invariant.1 (omega arith) (wrong-here _ c.loop-i.i _ (omega arith) c.kind_wrong.ensures ∙ c.if-kind_wrong.true)
-
-pub overflow_add-i : goal.overflow_add-i
-overflow_add-i c = omega arith
-
-pub loop-i-smaller : goal.loop-i-smaller
-loop-i-smaller c = omega arith
+    left-found _ _ c.loop-i.i c.loop-i.invariant (omega arith) (wrong-here _ c.loop-i.i _ (omega arith) c.kind_wrong.ensures ∙ c.if-kind_wrong.true)
 
 pub loop-i-preserved : goal.loop-i-preserved
 loop-i-preserved c =
-    (omega arith, left-next _ _ c.loop-i.i c.loop-i.invariant.1 (omega arith) (wrong-here _ c.loop-i.i _ (omega arith) c.kind_wrong.ensures ∙ c.if-kind_wrong.false))
+    left-next _ _ c.loop-i.i c.loop-i.invariant (omega arith) (wrong-here _ c.loop-i.i _ (omega arith) c.kind_wrong.ensures ∙ c.if-kind_wrong.false)
 
 pub returns : goal.returns
 unfolding kinds_wrong
-returns c = left_end _ _ c.loop-i.i c.loop-i.invariant.1 (omega arith)
+returns c = left_end _ _ c.loop-i.i c.loop-i.invariant (omega arith)

@@ -1,5 +1,5 @@
--- What the loop of `some_kind_wrong` keeps, and what falls.
-use Prim.Native.Nat.{ℕ, ◌-◌, ◌≤◌}
+-- What the loop of `some_kind_wrong` keeps.
+use Prim.Native.Nat.{ℕ}
 use mathlib.Core.Bool.{Bool}
 use mathlib.Core.List.{List, []}
 use lib.ListN.{length, get_or}
@@ -13,7 +13,4 @@ abbrev pub wrong : List ℕ → ℕ → Bool
 wrong s i = kind_wrong i (get_or (file_of s).kinds i [])
 
 abbrev pub invariant-loop-i : goal.invariant-loop-i
-invariant-loop-i l = (l.i ≤ l.kinds) × Left (wrong l.terms) (length (file_of l.terms).kinds) l.i
-
-abbrev pub decreases-loop-i : goal.decreases-loop-i
-decreases-loop-i l = l.kinds - l.i
+invariant-loop-i l = Left (wrong l.terms) (length (file_of l.terms).kinds) l.i

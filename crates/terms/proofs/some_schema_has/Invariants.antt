@@ -1,5 +1,4 @@
--- What the loop of `some_schema_has` keeps, and what falls.
-use Prim.Native.Nat.{◌-◌, ◌≤◌}
+-- What the loop of `some_schema_has` keeps.
 use lib.ListN.{length}
 use Rattle.format.specs.Grammar.{file_of}
 use Rattle.terms.specs.Questions.{schema_has}
@@ -7,7 +6,4 @@ use Rattle.terms.proofs.Steps.{Left}
 use Rattle.terms.proofs.some_schema_has.Given as goal
 
 abbrev pub invariant-loop-n : goal.invariant-loop-n
-invariant-loop-n l = (l.n ≤ length (file_of l.terms).schemas) × Left (schema_has l.terms l.fault) (length (file_of l.terms).schemas) l.n
-
-abbrev pub decreases-loop-n : goal.decreases-loop-n
-decreases-loop-n l = length (file_of l.terms).schemas - l.n
+invariant-loop-n l = Left (schema_has l.terms l.fault) (length (file_of l.terms).schemas) l.n
