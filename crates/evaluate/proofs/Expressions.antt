@@ -28,6 +28,8 @@ use Rattle.meaning.proofs.Equation.{time-equation}
 use Rattle.format.proofs.FieldLaws.{neither-silent}
 use Rattle.grammar.specs.Places.{Starts}
 use Rattle.records.specs.Holds.{record_at}
+use Rattle.std.specs.Prelude.{Some}
+use Rattle.grammar.specs.declared.Spot.{Spot}
 use Rattle.fields.specs.declared.Expression.{Expression}
 use Rattle.fields.specs.Decoded.{ExpressionAt}
 use Rattle.terms.proofs.ClauseLaws.{create-here, detach-here, consequent-here}
@@ -38,8 +40,8 @@ use Rattle.times.proofs.Needs.{stage-needs}
 use Rattle.evaluate.specs.Seen.{log_in, record_in, stage_in, under}
 
 -- what is known of an expression, as the code told it
-pub expression-as : (s : List ℕ) (at items : ℕ) {r : Expression} → ExpressionAt s at items r → (x : Expression) → r ≡ x → ExpressionAt s at items x
-expression-as s at items h x e = rw e at h
+pub expression-as : (s : List ℕ) (spot : Spot) {r : Expression} → ExpressionAt s spot (Some r) → (x : Expression) → r ≡ x → ExpressionAt s spot (Some x)
+expression-as s spot h x e = rw e at h
 
 module _ (terms log : List ℕ) (k subject : ℕ) where
   -- the times of an expression, for a clause of rank k and the subject

@@ -1,5 +1,5 @@
 -- The functions of the cycle meet their contracts, their calls within the cycle being smaller. Assumes nothing.
-use Prim.Native.Nat.{ℕ, ◌+◌, ◌*◌, ◌≤◌, ◌<◌, ◌-◌}
+use Prim.Native.Nat.{ℕ, ◌+◌, ◌*◌, ◌≤◌, ◌<◌}
 use native.Mathlib.Omega.{arith}
 use mathlib.Core.Path.{◌≡◌, refl, sym, ◌∙◌}
 use borrow.Author.Rules.{rules}
@@ -12,6 +12,7 @@ use Rattle.evaluate.proofs.Expressions.{occurs-times, fails-times, expression-as
 use Rattle.table.proofs.TableLaws.{schemas-few}
 use Rattle.evaluate.proofs.Leaves.{count-no-lower, count-no-upper, count-more, count-few, first-here, plain_known, open-known, event-never, plus-known, minus-known, fails-no-upper, fails-unreached, fails-empty, fails-no-lower, fails_met, fails-missed, occurs-no-lower, occurs-no-upper, occurs}
 use Rattle.meaning.specs.Meaning.{and_of, or_of, except_of}
+use Rattle.std.specs.Prelude.{Some}
 use Rattle.fields.specs.declared.Expression.{Expression}
 use Rattle.fields.specs.Decoded.{ExpressionAt}
 use mathlib.Core.Logic.{inl, inr}
@@ -31,7 +32,7 @@ use Rattle.meaning.specs.declared.NormType.{NormType}
 use Rattle.meaning.specs.Terms.{rank}
 use Rattle.times.specs.declared.Needed.TheVariants.{Neither, Occurrence, Failure, Both}
 use Rattle.evaluate.proofs.+stage_times.Invariants.{weight}
-use Rattle.evaluate.proofs.+stage_times.Goals.{clause_times-After-start_in-at, failure-After-expression_at, first_within-In-loop-at, first_within-then-is_marked, first_within-else-is_marked, occurrence-After-expression_at, stage_time-Start}
+use Rattle.evaluate.proofs.+stage_times.Goals.{clause_times-After-start_in-at, failure-In-Some, first_within-In-loop-at, first_within-then-is_marked, first_within-else-is_marked, occurrence-In-Some, stage_time-Start}
 use Rattle.evaluate.proofs.+stage_times.Goals as goal
 
 -- clause_times: the times of a clause, as many as are needed
@@ -112,92 +113,72 @@ count_times-returns-else-count-number t c =
 -- failure: when an expression fails
 
 -- what is read at the place, as it is told
-failure-read : (t : ℕ) (c : failure-After-expression_at t) (x : Expression) → c.expression_at.result ≡ x
-    → let a = c.args in ExpressionAt a.terms.now a.at a.items x
-failure-read t c x e = let a = c.args in expression-as a.terms.now a.at a.items c.expression_at.ensures x e
+failure-read : (t : ℕ) (c : failure-In-Some t) (x : Expression) → c.in-Some.expression ≡ x
+    → let a = c.args in ExpressionAt a.terms.now a.spot (Some x)
+failure-read t c x e = let a = c.args in expression-as a.terms.now a.spot c.in-Some.ensures x e
 
 -- an operand may be asked for: it has fewer items
-failure-operand : (t : ℕ) (c : failure-After-expression_at t) (n : ℕ) → let a = c.args in n < a.items
+failure-operand : (t : ℕ) (c : failure-In-Some t) (n : ℕ) → let a = c.args in n < a.spot.items
     → (a.clause.rank * 512 + n * 8 + 9 < t)
     × (Ready a.terms.now a.log.now a.table.now × (Posed a.terms.now a.log.now a.clause × (n ≤ expr_limit)))
 failure-operand t c n h = let p = c.requires in (omega arith, (p.ready, (p.posed, omega arith)))
 
-pub failure-overflow_add-at : goal.failure-overflow_add-at
-failure-overflow_add-at t c = omega (arith, failure-read t (goal.at.failure-overflow_add-at t c).After-expression_at _ c.in-And.is)
-
-pub failure-overflow_sub-items : goal.failure-overflow_sub-items
-failure-overflow_sub-items t c = omega (arith, failure-read t (goal.at.failure-overflow_sub-items t c).After-expression_at _ c.in-And.is)
-
 pub failure-failure-a-requires : goal.failure-failure-a-requires
-failure-failure-a-requires t c = failure-operand t (goal.at.failure-failure-a-requires t c).After-expression_at (c.args.items - 1) (omega (arith, failure-read t (goal.at.failure-failure-a-requires t c).After-expression_at _ c.in-And.is))
+failure-failure-a-requires t c = failure-operand t (goal.at.failure-failure-a-requires t c).In-Some c.in-And.first.items (omega (arith, failure-read t (goal.at.failure-failure-a-requires t c).In-Some _ c.in-And.is))
 
 pub failure-failure-b-requires : goal.failure-failure-b-requires
-failure-failure-b-requires t c = failure-operand t (goal.at.failure-failure-b-requires t c).After-expression_at c.in-And.left (omega (arith, failure-read t (goal.at.failure-failure-b-requires t c).After-expression_at _ c.in-And.is))
-
-pub failure-overflow_add-at-in-Or : goal.failure-overflow_add-at-in-Or
-failure-overflow_add-at-in-Or t c = omega (arith, failure-read t (goal.at.failure-overflow_add-at-in-Or t c).After-expression_at _ c.in-Or.is)
-
-pub failure-overflow_sub-items-in-Or : goal.failure-overflow_sub-items-in-Or
-failure-overflow_sub-items-in-Or t c = omega (arith, failure-read t (goal.at.failure-overflow_sub-items-in-Or t c).After-expression_at _ c.in-Or.is)
+failure-failure-b-requires t c = failure-operand t (goal.at.failure-failure-b-requires t c).In-Some c.in-And.second.items (omega (arith, failure-read t (goal.at.failure-failure-b-requires t c).In-Some _ c.in-And.is))
 
 pub failure-failure-a-requires-in-Or : goal.failure-failure-a-requires-in-Or
-failure-failure-a-requires-in-Or t c = failure-operand t (goal.at.failure-failure-a-requires-in-Or t c).After-expression_at (c.args.items - 1) (omega (arith, failure-read t (goal.at.failure-failure-a-requires-in-Or t c).After-expression_at _ c.in-Or.is))
+failure-failure-a-requires-in-Or t c = failure-operand t (goal.at.failure-failure-a-requires-in-Or t c).In-Some c.in-Or.first.items (omega (arith, failure-read t (goal.at.failure-failure-a-requires-in-Or t c).In-Some _ c.in-Or.is))
 
 pub failure-failure-b-requires-in-Or : goal.failure-failure-b-requires-in-Or
-failure-failure-b-requires-in-Or t c = failure-operand t (goal.at.failure-failure-b-requires-in-Or t c).After-expression_at c.in-Or.left (omega (arith, failure-read t (goal.at.failure-failure-b-requires-in-Or t c).After-expression_at _ c.in-Or.is))
-
-pub failure-overflow_add-at-in-Except : goal.failure-overflow_add-at-in-Except
-failure-overflow_add-at-in-Except t c = omega (arith, failure-read t (goal.at.failure-overflow_add-at-in-Except t c).After-expression_at _ c.in-Except.is)
-
-pub failure-overflow_sub-items-in-Except : goal.failure-overflow_sub-items-in-Except
-failure-overflow_sub-items-in-Except t c = omega (arith, failure-read t (goal.at.failure-overflow_sub-items-in-Except t c).After-expression_at _ c.in-Except.is)
+failure-failure-b-requires-in-Or t c = failure-operand t (goal.at.failure-failure-b-requires-in-Or t c).In-Some c.in-Or.second.items (omega (arith, failure-read t (goal.at.failure-failure-b-requires-in-Or t c).In-Some _ c.in-Or.is))
 
 pub failure-failure-a-requires-in-Except : goal.failure-failure-a-requires-in-Except
-failure-failure-a-requires-in-Except t c = failure-operand t (goal.at.failure-failure-a-requires-in-Except t c).After-expression_at (c.args.items - 1) (omega (arith, failure-read t (goal.at.failure-failure-a-requires-in-Except t c).After-expression_at _ c.in-Except.is))
+failure-failure-a-requires-in-Except t c = failure-operand t (goal.at.failure-failure-a-requires-in-Except t c).In-Some c.in-Except.first.items (omega (arith, failure-read t (goal.at.failure-failure-a-requires-in-Except t c).In-Some _ c.in-Except.is))
 
 pub failure-occurrence-b-requires : goal.failure-occurrence-b-requires
-failure-occurrence-b-requires t c = failure-operand t (goal.at.failure-occurrence-b-requires t c).After-expression_at c.in-Except.left (omega (arith, failure-read t (goal.at.failure-occurrence-b-requires t c).After-expression_at _ c.in-Except.is))
+failure-occurrence-b-requires t c = failure-operand t (goal.at.failure-occurrence-b-requires t c).In-Some c.in-Except.second.items (omega (arith, failure-read t (goal.at.failure-occurrence-b-requires t c).In-Some _ c.in-Except.is))
 
 pub failure-returns-in-Happens : goal.failure-returns-in-Happens
 failure-returns-in-Happens t c =
     let a = c.args in
-    rw (leaf-times a.terms.now a.log.now a.clause.rank a.clause.subject (failure-read t (goal.at.failure-returns-in-Happens t c).After-expression_at _ c.in-Leaf.is) c.in-Happens.is) c.leaf_failure.ensures
+    rw (leaf-times a.terms.now a.log.now a.clause.rank a.clause.subject (failure-read t (goal.at.failure-returns-in-Happens t c).In-Some _ c.in-Leaf.is) c.in-Happens.is) c.leaf_failure.ensures
 
 pub failure-returns-in-Counts : goal.failure-returns-in-Counts
 failure-returns-in-Counts t c =
     let a = c.args in
-    rw (count-as a.terms.now a.log.now a.clause.rank a.clause.subject (failure-read t (goal.at.failure-returns-in-Counts t c).After-expression_at _ c.in-Leaf.is) c.in-Counts.is, c.count_times.ensures)
+    rw (count-as a.terms.now a.log.now a.clause.rank a.clause.subject (failure-read t (goal.at.failure-returns-in-Counts t c).In-Some _ c.in-Leaf.is) c.in-Counts.is, c.count_times.ensures)
 
 pub failure-returns-in-And : goal.failure-returns-in-And
 unfolding and_of
 failure-returns-in-And t c =
     let a = c.args in
-    let j = failure-read t (goal.at.failure-returns-in-And t c).After-expression_at _ c.in-And.is in
+    let j = failure-read t (goal.at.failure-returns-in-And t c).In-Some _ c.in-And.is in
     rw (and-times a.terms.now a.log.now a.clause.rank a.clause.subject j.0, c.earlier_of.ensures, c.failure-a.ensures, c.failure-b.ensures)
 
 pub failure-returns-in-Or : goal.failure-returns-in-Or
 unfolding or_of
 failure-returns-in-Or t c =
     let a = c.args in
-    let j = failure-read t (goal.at.failure-returns-in-Or t c).After-expression_at _ c.in-Or.is in
+    let j = failure-read t (goal.at.failure-returns-in-Or t c).In-Some _ c.in-Or.is in
     rw (or-times a.terms.now a.log.now a.clause.rank a.clause.subject j.0, c.later_of.ensures, c.failure-a-in-Or.ensures, c.failure-b-in-Or.ensures)
 
 pub failure-returns-in-Except : goal.failure-returns-in-Except
 unfolding except_of
 failure-returns-in-Except t c =
     let a = c.args in
-    let j = failure-read t (goal.at.failure-returns-in-Except t c).After-expression_at _ c.in-Except.is in
+    let j = failure-read t (goal.at.failure-returns-in-Except t c).In-Some _ c.in-Except.is in
     rw (except-times a.terms.now a.log.now a.clause.rank a.clause.subject j.0, c.earlier_of-in-Except.ensures, c.failure-a-in-Except.ensures, c.occurrence-b.ensures)
 
 pub failure-returns-in-Always : goal.failure-returns-in-Always
 failure-returns-in-Always t c =
     let a = c.args in
-    rw (always-times a.terms.now a.log.now a.clause.rank a.clause.subject (failure-read t (goal.at.failure-returns-in-Always t c).After-expression_at _ c.in-Always.is))
+    rw (always-times a.terms.now a.log.now a.clause.rank a.clause.subject (failure-read t (goal.at.failure-returns-in-Always t c).In-Some _ c.in-Always.is))
 
-pub failure-returns-in-Nothing : goal.failure-returns-in-Nothing
-failure-returns-in-Nothing t c =
-    let a = c.args in
-    rw (nothing-times a.terms.now a.log.now a.clause.rank a.clause.subject (failure-read t (goal.at.failure-returns-in-Nothing t c).After-expression_at _ c.in-Nothing.is))
+pub failure-returns-in_default : goal.failure-returns-in_default
+failure-returns-in_default t c = let a = c.args in rw (nothing-times a.terms.now a.log.now a.clause.rank a.clause.subject c.in_default.ensures)
 
 -- first: the earliest happening of an event
 
@@ -381,92 +362,72 @@ leaf_occurrence-returns t c =
 -- occurrence: when an expression occurs
 
 -- what is read at the place, as it is told
-occurrence-read : (t : ℕ) (c : occurrence-After-expression_at t) (x : Expression) → c.expression_at.result ≡ x
-    → let a = c.args in ExpressionAt a.terms.now a.at a.items x
-occurrence-read t c x e = let a = c.args in expression-as a.terms.now a.at a.items c.expression_at.ensures x e
+occurrence-read : (t : ℕ) (c : occurrence-In-Some t) (x : Expression) → c.in-Some.expression ≡ x
+    → let a = c.args in ExpressionAt a.terms.now a.spot (Some x)
+occurrence-read t c x e = let a = c.args in expression-as a.terms.now a.spot c.in-Some.ensures x e
 
 -- an operand may be asked for: it has fewer items
-occurrence-operand : (t : ℕ) (c : occurrence-After-expression_at t) (n : ℕ) → let a = c.args in n < a.items
+occurrence-operand : (t : ℕ) (c : occurrence-In-Some t) (n : ℕ) → let a = c.args in n < a.spot.items
     → (a.clause.rank * 512 + n * 8 + 9 < t)
     × (Ready a.terms.now a.log.now a.table.now × (Posed a.terms.now a.log.now a.clause × (n ≤ expr_limit)))
 occurrence-operand t c n h = let p = c.requires in (omega arith, (p.ready, (p.posed, omega arith)))
 
-pub occurrence-overflow_add-at : goal.occurrence-overflow_add-at
-occurrence-overflow_add-at t c = omega (arith, occurrence-read t (goal.at.occurrence-overflow_add-at t c).After-expression_at _ c.in-And.is)
-
-pub occurrence-overflow_sub-items : goal.occurrence-overflow_sub-items
-occurrence-overflow_sub-items t c = omega (arith, occurrence-read t (goal.at.occurrence-overflow_sub-items t c).After-expression_at _ c.in-And.is)
-
 pub occurrence-occurrence-a-requires : goal.occurrence-occurrence-a-requires
-occurrence-occurrence-a-requires t c = occurrence-operand t (goal.at.occurrence-occurrence-a-requires t c).After-expression_at (c.args.items - 1) (omega (arith, occurrence-read t (goal.at.occurrence-occurrence-a-requires t c).After-expression_at _ c.in-And.is))
+occurrence-occurrence-a-requires t c = occurrence-operand t (goal.at.occurrence-occurrence-a-requires t c).In-Some c.in-And.first.items (omega (arith, occurrence-read t (goal.at.occurrence-occurrence-a-requires t c).In-Some _ c.in-And.is))
 
 pub occurrence-occurrence-b-requires : goal.occurrence-occurrence-b-requires
-occurrence-occurrence-b-requires t c = occurrence-operand t (goal.at.occurrence-occurrence-b-requires t c).After-expression_at c.in-And.left (omega (arith, occurrence-read t (goal.at.occurrence-occurrence-b-requires t c).After-expression_at _ c.in-And.is))
-
-pub occurrence-overflow_add-at-in-Or : goal.occurrence-overflow_add-at-in-Or
-occurrence-overflow_add-at-in-Or t c = omega (arith, occurrence-read t (goal.at.occurrence-overflow_add-at-in-Or t c).After-expression_at _ c.in-Or.is)
-
-pub occurrence-overflow_sub-items-in-Or : goal.occurrence-overflow_sub-items-in-Or
-occurrence-overflow_sub-items-in-Or t c = omega (arith, occurrence-read t (goal.at.occurrence-overflow_sub-items-in-Or t c).After-expression_at _ c.in-Or.is)
+occurrence-occurrence-b-requires t c = occurrence-operand t (goal.at.occurrence-occurrence-b-requires t c).In-Some c.in-And.second.items (omega (arith, occurrence-read t (goal.at.occurrence-occurrence-b-requires t c).In-Some _ c.in-And.is))
 
 pub occurrence-occurrence-a-requires-in-Or : goal.occurrence-occurrence-a-requires-in-Or
-occurrence-occurrence-a-requires-in-Or t c = occurrence-operand t (goal.at.occurrence-occurrence-a-requires-in-Or t c).After-expression_at (c.args.items - 1) (omega (arith, occurrence-read t (goal.at.occurrence-occurrence-a-requires-in-Or t c).After-expression_at _ c.in-Or.is))
+occurrence-occurrence-a-requires-in-Or t c = occurrence-operand t (goal.at.occurrence-occurrence-a-requires-in-Or t c).In-Some c.in-Or.first.items (omega (arith, occurrence-read t (goal.at.occurrence-occurrence-a-requires-in-Or t c).In-Some _ c.in-Or.is))
 
 pub occurrence-occurrence-b-requires-in-Or : goal.occurrence-occurrence-b-requires-in-Or
-occurrence-occurrence-b-requires-in-Or t c = occurrence-operand t (goal.at.occurrence-occurrence-b-requires-in-Or t c).After-expression_at c.in-Or.left (omega (arith, occurrence-read t (goal.at.occurrence-occurrence-b-requires-in-Or t c).After-expression_at _ c.in-Or.is))
-
-pub occurrence-overflow_add-at-in-Except : goal.occurrence-overflow_add-at-in-Except
-occurrence-overflow_add-at-in-Except t c = omega (arith, occurrence-read t (goal.at.occurrence-overflow_add-at-in-Except t c).After-expression_at _ c.in-Except.is)
-
-pub occurrence-overflow_sub-items-in-Except : goal.occurrence-overflow_sub-items-in-Except
-occurrence-overflow_sub-items-in-Except t c = omega (arith, occurrence-read t (goal.at.occurrence-overflow_sub-items-in-Except t c).After-expression_at _ c.in-Except.is)
+occurrence-occurrence-b-requires-in-Or t c = occurrence-operand t (goal.at.occurrence-occurrence-b-requires-in-Or t c).In-Some c.in-Or.second.items (omega (arith, occurrence-read t (goal.at.occurrence-occurrence-b-requires-in-Or t c).In-Some _ c.in-Or.is))
 
 pub occurrence-occurrence-a-requires-in-Except : goal.occurrence-occurrence-a-requires-in-Except
-occurrence-occurrence-a-requires-in-Except t c = occurrence-operand t (goal.at.occurrence-occurrence-a-requires-in-Except t c).After-expression_at (c.args.items - 1) (omega (arith, occurrence-read t (goal.at.occurrence-occurrence-a-requires-in-Except t c).After-expression_at _ c.in-Except.is))
+occurrence-occurrence-a-requires-in-Except t c = occurrence-operand t (goal.at.occurrence-occurrence-a-requires-in-Except t c).In-Some c.in-Except.first.items (omega (arith, occurrence-read t (goal.at.occurrence-occurrence-a-requires-in-Except t c).In-Some _ c.in-Except.is))
 
 pub occurrence-failure-b-requires : goal.occurrence-failure-b-requires
-occurrence-failure-b-requires t c = occurrence-operand t (goal.at.occurrence-failure-b-requires t c).After-expression_at c.in-Except.left (omega (arith, occurrence-read t (goal.at.occurrence-failure-b-requires t c).After-expression_at _ c.in-Except.is))
+occurrence-failure-b-requires t c = occurrence-operand t (goal.at.occurrence-failure-b-requires t c).In-Some c.in-Except.second.items (omega (arith, occurrence-read t (goal.at.occurrence-failure-b-requires t c).In-Some _ c.in-Except.is))
 
 pub occurrence-returns-in-Happens : goal.occurrence-returns-in-Happens
 occurrence-returns-in-Happens t c =
     let a = c.args in
-    rw (leaf-times a.terms.now a.log.now a.clause.rank a.clause.subject (occurrence-read t (goal.at.occurrence-returns-in-Happens t c).After-expression_at _ c.in-Leaf.is) c.in-Happens.is) c.leaf_occurrence.ensures
+    rw (leaf-times a.terms.now a.log.now a.clause.rank a.clause.subject (occurrence-read t (goal.at.occurrence-returns-in-Happens t c).In-Some _ c.in-Leaf.is) c.in-Happens.is) c.leaf_occurrence.ensures
 
 pub occurrence-returns-in-Counts : goal.occurrence-returns-in-Counts
 occurrence-returns-in-Counts t c =
     let a = c.args in
-    rw (count-as a.terms.now a.log.now a.clause.rank a.clause.subject (occurrence-read t (goal.at.occurrence-returns-in-Counts t c).After-expression_at _ c.in-Leaf.is) c.in-Counts.is, c.count_times.ensures)
+    rw (count-as a.terms.now a.log.now a.clause.rank a.clause.subject (occurrence-read t (goal.at.occurrence-returns-in-Counts t c).In-Some _ c.in-Leaf.is) c.in-Counts.is, c.count_times.ensures)
 
 pub occurrence-returns-in-And : goal.occurrence-returns-in-And
 unfolding and_of
 occurrence-returns-in-And t c =
     let a = c.args in
-    let j = occurrence-read t (goal.at.occurrence-returns-in-And t c).After-expression_at _ c.in-And.is in
+    let j = occurrence-read t (goal.at.occurrence-returns-in-And t c).In-Some _ c.in-And.is in
     rw (and-times a.terms.now a.log.now a.clause.rank a.clause.subject j.0, c.later_of.ensures, c.occurrence-a.ensures, c.occurrence-b.ensures)
 
 pub occurrence-returns-in-Or : goal.occurrence-returns-in-Or
 unfolding or_of
 occurrence-returns-in-Or t c =
     let a = c.args in
-    let j = occurrence-read t (goal.at.occurrence-returns-in-Or t c).After-expression_at _ c.in-Or.is in
+    let j = occurrence-read t (goal.at.occurrence-returns-in-Or t c).In-Some _ c.in-Or.is in
     rw (or-times a.terms.now a.log.now a.clause.rank a.clause.subject j.0, c.earlier_of.ensures, c.occurrence-a-in-Or.ensures, c.occurrence-b-in-Or.ensures)
 
 pub occurrence-returns-in-Except : goal.occurrence-returns-in-Except
 unfolding except_of
 occurrence-returns-in-Except t c =
     let a = c.args in
-    let j = occurrence-read t (goal.at.occurrence-returns-in-Except t c).After-expression_at _ c.in-Except.is in
+    let j = occurrence-read t (goal.at.occurrence-returns-in-Except t c).In-Some _ c.in-Except.is in
     rw (except-times a.terms.now a.log.now a.clause.rank a.clause.subject j.0, c.later_of-in-Except.ensures, c.occurrence-a-in-Except.ensures, c.failure-b.ensures)
 
 pub occurrence-returns-in-Always : goal.occurrence-returns-in-Always
 occurrence-returns-in-Always t c =
     let a = c.args in
-    rw (always-times a.terms.now a.log.now a.clause.rank a.clause.subject (occurrence-read t (goal.at.occurrence-returns-in-Always t c).After-expression_at _ c.in-Always.is))
+    rw (always-times a.terms.now a.log.now a.clause.rank a.clause.subject (occurrence-read t (goal.at.occurrence-returns-in-Always t c).In-Some _ c.in-Always.is))
 
-pub occurrence-returns-in-Nothing : goal.occurrence-returns-in-Nothing
-occurrence-returns-in-Nothing t c =
-    let a = c.args in
-    rw (nothing-times a.terms.now a.log.now a.clause.rank a.clause.subject (occurrence-read t (goal.at.occurrence-returns-in-Nothing t c).After-expression_at _ c.in-Nothing.is))
+pub occurrence-returns-in_default : goal.occurrence-returns-in_default
+occurrence-returns-in_default t c = let a = c.args in rw (nothing-times a.terms.now a.log.now a.clause.rank a.clause.subject c.in_default.ensures)
 
 -- stage_time: the time of a cited stage
 

@@ -26,7 +26,7 @@ abbrev pub decreases-count_times : goal.decreases-count_times
 decreases-count_times l = l.clause.rank * 512 + 8
 
 abbrev pub decreases-failure : goal.decreases-failure
-decreases-failure l = l.clause.rank * 512 + l.items * 8 + 9
+decreases-failure l = l.clause.rank * 512 + l.spot.items * 8 + 9
 
 abbrev pub decreases-first : goal.decreases-first
 decreases-first l = l.clause.rank * 512 + 6
@@ -47,7 +47,7 @@ abbrev pub decreases-leaf_occurrence : goal.decreases-leaf_occurrence
 decreases-leaf_occurrence l = l.clause.rank * 512 + 8
 
 abbrev pub decreases-occurrence : goal.decreases-occurrence
-decreases-occurrence l = l.clause.rank * 512 + l.items * 8 + 9
+decreases-occurrence l = l.clause.rank * 512 + l.spot.items * 8 + 9
 
 abbrev pub decreases-stage_time : goal.decreases-stage_time
 decreases-stage_time l = rank l.stage l.schema * 512 + 511
