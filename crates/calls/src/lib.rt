@@ -1,8 +1,10 @@
 // Why the calls refuse: what they answer is a `Result` with this error. No call stands here.
 #![tactic(auto)]
 
-ghost use Rattle.std.specs.Prelude.{◌≡◌};
+ghost use Rattle.std.specs.Prelude.{◌≡◌, ◌++◌, Some, codes, decimal};
 ghost use Rattle.calls.specs.Answers.{refusal_number};
+
+use std::fmt;
 
 // Why a call is refused, in the order of the table.
 #[derive(Clone, Copy, Debug, PartialEq, Eq)]
@@ -48,5 +50,13 @@ impl Refusal {
             Refusal::NoSchema => 15,
             Refusal::NoSubject => 16,
         }
+    }
+}
+
+impl fmt::Display for Refusal {
+    ghost output = { λ refusal. Some (codes "refused " ++ decimal (refusal_number refusal)) };
+
+    fn fmt<W: fmt::Write>(&self, f: &mut fmt::Formatter<W>) -> fmt::Result {
+        write!(f, "refused {}", self.number())
     }
 }

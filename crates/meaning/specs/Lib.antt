@@ -13,3 +13,4 @@ pub mod Terms
 pub mod Log
 pub mod Meaning
 pub mod Rows
+pub mod Text

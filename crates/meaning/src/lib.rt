@@ -1,10 +1,13 @@
 // The types that the engine's code and its definitions share; those of answers are in `calls`. No call stands here.
 #![tactic(auto)]
 
-ghost use Rattle.std.specs.Prelude.{◌≡◌, ok_or};
+ghost use Rattle.std.specs.Prelude.{◌≡◌, Some, ok_or};
 ghost use Rattle.meaning.specs.Time.{later_of, earlier_of};
 ghost use Rattle.meaning.specs.Stages.{stage_of, stage_number};
 ghost use Rattle.meaning.specs.Meaning.{and_of, or_of, except_of};
+ghost use Rattle.meaning.specs.Text.{stage_name, row_text};
+
+use std::fmt;
 
 // A minute at which something happens, or none, which is later than any.
 #[derive(Clone, Copy, Debug, PartialEq, Eq, PartialOrd, Ord)]
@@ -204,4 +207,34 @@ pub struct Entries {
     pub expired: Time,
     pub discharged: Time,
     pub violated: Time,
+}
+
+impl fmt::Display for Stage {
+    ghost output = { λ stage. Some (stage_name stage) };
+
+    fn fmt<W: fmt::Write>(&self, f: &mut fmt::Formatter<W>) -> fmt::Result {
+        f.write_str(match self {
+            Stage::Created => "created",
+            Stage::Detached => "detached",
+            Stage::Expired => "expired",
+            Stage::Discharged => "discharged",
+            Stage::Violated => "violated",
+        })
+    }
+}
+
+impl fmt::Display for Row {
+    ghost output = { λ row. Some (row_text row) };
+
+    fn fmt<W: fmt::Write>(&self, f: &mut fmt::Formatter<W>) -> fmt::Result {
+        let Row {
+            stage,
+            schema,
+            key,
+            privileged,
+            liable,
+            time,
+        } = self;
+        write!(f, "{stage} {schema} {key} {privileged} {liable} {time}")
+    }
 }
