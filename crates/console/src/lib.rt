@@ -1,105 +1,131 @@
-// What the programs read and print: buffers filled from standard input; words, numbers, refusals and rows on standard output.
+// What the programs share: the reading of their input, and the rows of a report as values.
 #![tactic(auto)]
 
-ghost use Rattle.std.specs.Prelude.{◌+◌, ◌≤◌, length};
+ghost use Rattle.std.specs.Prelude.{◌≡◌, ◌++◌, IfOk, IfSome, length, take, vec_len};
+ghost use Rattle.std.specs.Io.{StartsWith};
+ghost use Rattle.std.specs.Io.KnownBytes.{Consumes};
+ghost use Rattle.format.specs.Bytes.{bytes_of};
+ghost use Rattle.format.specs.Records.{row_bytes, value_width};
+ghost use Rattle.console.specs.Rows.{rows_bytes};
 
-use calls::Refusal;
-use grammar::{byte_at, u32_at};
-use meaning::Stage;
+use grammar::u32_at;
+use meaning::{Row, Stage};
 use report::ROW_LENGTH;
+use std::alloc::{AllocError, AllocFailed, Global};
+use std::io;
+use std::io::{ErrorKind, Read};
 
-// The number of standard input.
-pub const STDIN: i32 = 0;
-
-// The number of standard output.
-pub const STDOUT: i32 = 1;
-
-// Fills a buffer from standard input. Whether there was enough.
-pub fn fill(buffer: &mut [u8]) -> bool {
-    io::read_full(STDIN, buffer) == buffer.len()
+// Why a program stops: its input is not written as it has to be, or memory or the output failed.
+#[derive(Debug, Drop)]
+pub enum Failure {
+    BadInput,
+    Io(io::Error),
 }
 
-// Whether nothing is left of standard input.
-pub fn at_end() -> bool {
-    let mut more = [0u8; 1];
-    io::read_full(STDIN, &mut more) == 0
-}
-
-// Prints bytes as they are.
-pub fn say(words: &[u8]) {
-    io::write_all(STDOUT, words);
-}
-
-// Prints a number.
-pub fn say_number(n: u64) {
-    io::print_decimal(STDOUT, n);
-}
-
-// Prints a number, with a space before it.
-pub fn say_next(n: u64) {
-    say(b" ");
-    say_number(n);
-}
-
-// Prints a refusal, to the end of its line.
-pub fn say_refusal(refusal: Refusal) {
-    say(b"refused");
-    say_next(refusal.number() as u64);
-    say(b"\n");
-}
-
-// Prints the name of the stage that the first byte of a row stands for.
-fn say_stage(form: u8) {
-    let Ok(stage) = Stage::try_from(form) else {
-        say(b"no-stage");
-        return;
-    };
-    match stage {
-        Stage::Created => {
-            say(b"created");
-        }
-        Stage::Detached => {
-            say(b"detached");
-        }
-        Stage::Expired => {
-            say(b"expired");
-        }
-        Stage::Discharged => {
-            say(b"discharged");
-        }
-        Stage::Violated => {
-            say(b"violated");
-        }
+impl From<io::Error> for Failure {
+    fn from(error: io::Error) -> Failure {
+        Failure::Io(error)
     }
 }
 
-// Prints the row at a place of a page: stage, schema, key, privileged, liable, time.
-fn say_row(page: &[u8], at: usize)
-    requires { at + 18 ≤ length page.now }
-{
-    say_stage(page[at]);
-    say_next(byte_at(page, at + 1) as u64);
-    say_next(u32_at(page, at + 2) as u64);
-    say_next(u32_at(page, at + 6) as u64);
-    say_next(u32_at(page, at + 10) as u64);
-    say_next(u32_at(page, at + 14) as u64);
-    say(b"\n");
+impl From<AllocError> for Failure {
+    fn from(error: AllocError) -> Failure {
+        Failure::Io(io::Error::from(error))
+    }
 }
 
-// Prints the first rows of a page, as many as are asked for and there; a margin stands before each. The place behind them.
-pub fn say_rows(margin: &[u8], page: &[u8], count: usize) -> usize
-    ensures { result ≤ length page.now }
-{
-    let mut at: usize = 0;
-    let mut left = count;
-    while 0 < left {
-        if page.len() - at < ROW_LENGTH {
-            return at;
-        }
-        say(margin);
-        say_row(page, at);
-        at += ROW_LENGTH;
-        left -= 1;
+impl<T: Drop> From<AllocFailed<T>> for Failure {
+    fn from(error: AllocFailed<T>) -> Failure {
+        Failure::from(AllocError::from(error))
     }
-    at
+}
+
+// The next bytes of the input, so many. It is bad where it ends before them or fails.
+pub fn read_bytes<R: Read>(alloc: Global, input: &mut R, count: usize) -> Result<Vec<u8>, Failure>
+    ensures length { IfOk result (λ bytes. vec_len bytes ≡ count) }
+    ensures bytes { IfOk result (λ bytes. Consumes (R.remaining input.old) (R.remaining input.new) bytes.items) }
+{
+    let mut bytes = vec![in alloc; 0; count]?;
+    match input.read_exact(&mut bytes) {
+        Ok(()) => Ok(bytes),
+        Err(_) => Err(Failure::BadInput),
+    }
+}
+
+// The bytes of the input, up to so many. They end where it ends or fails.
+pub fn read_up_to<R: Read + Drop>(alloc: Global, input: R, count: usize) -> io::Result<Vec<u8>>
+    ensures { IfOk result (λ bytes. IfSome (R.remaining input) (λ all. StartsWith (take count all) bytes.items)) }
+{
+    let mut bytes = Vec::new(alloc);
+    match input.take(count as u64).read_to_end(&mut bytes) {
+        Err(error) if error.kind() == ErrorKind::OutOfMemory => Err(error),
+        _ => Ok(bytes),
+    }
+}
+
+// The number that four bytes stand for.
+fn number_of(bytes: &[u8]) -> u32
+    requires { length bytes.now ≡ 4 }
+    ensures { bytes_of 4 result ≡ bytes.now }
+{
+    u32_at(bytes, 0)
+}
+
+// The next number of the input, in four bytes.
+pub fn read_number<R: Read>(input: &mut R) -> Result<u32, Failure>
+    ensures { IfOk result (λ n. Consumes (R.remaining input.old) (R.remaining input.new) (bytes_of 4 n)) }
+{
+    let mut bytes = [0; 4];
+    match input.read_exact(&mut bytes) {
+        Ok(()) => Ok(number_of(&bytes)),
+        Err(_) => Err(Failure::BadInput),
+    }
+}
+
+// Whether nothing is left of the input, or it fails.
+pub fn at_end<R: Read>(input: &mut R) -> bool {
+    input.read_exact(&mut [0]).is_err()
+}
+
+// The row that eighteen bytes stand for, if the first names a stage.
+fn row_of(bytes: &[u8]) -> Option<Row>
+    requires { length bytes.now ≡ 18 }
+    ensures { IfSome result (λ row. row_bytes value_width row ≡ bytes.now) }
+{
+    let stage = Stage::try_from(bytes[0]).ok()?;
+    Some(Row {
+        stage,
+        schema: bytes[1],
+        key: u32_at(bytes, 2),
+        privileged: u32_at(bytes, 6),
+        liable: u32_at(bytes, 10),
+        time: u32_at(bytes, 14),
+    })
+}
+
+// The row at the front of bytes, if one stands there, and the bytes behind it.
+pub fn split_row(bytes: &[u8]) -> Option<(Row, &[u8])>
+    ensures { IfSome result (λ found. row_bytes value_width found.0 ++ found.1.now ≡ bytes.now) }
+{
+    if bytes.len() < ROW_LENGTH {
+        return None;
+    }
+    let (row, behind) = bytes.split_at(ROW_LENGTH);
+    Some((row_of(row)?, behind))
+}
+
+// The rows at the front of a page, as many as are asked for and there, and the bytes behind them.
+pub fn split_rows(alloc: Global, page: &[u8], count: usize) -> Result<(Vec<Row>, &[u8]), AllocError>
+    ensures { IfOk result (λ found. rows_bytes found.0.items ++ found.1.now ≡ page.now) }
+{
+    let mut rows = Vec::new(alloc);
+    let mut rest = page;
+    for _ in 0..count {
+        let Some((row, behind)) = split_row(rest) else {
+            break;
+        };
+        rows.push(row)?;
+        rest = behind;
+    }
+    Ok((rows, rest))
 }

@@ -1,77 +1,72 @@
 // Lists a report. Standard input is three numbers of four bytes (how long the terms are, how long the log is, the moment), then both.
 #![tactic(auto)]
 
-ghost use Rattle.std.specs.Prelude.{◌≡◌, length};
+ghost use Rattle.std.specs.Prelude.{◌≤◌, IfOk};
 
-use calls::Refusal;
-use console::{at_end, fill, say, say_refusal, say_rows};
+use calls::Reported;
+use console::{Failure, at_end, read_bytes, read_number, split_rows};
 use event_log::LOG_LIMIT;
-use grammar::u32_at;
 use report::report;
+use std::alloc::Global;
+use std::io;
+use std::io::Read;
 use terms::TERMS_LIMIT;
-
-// How many bytes stand before the terms.
-const HEAD_LENGTH: usize = 12;
 
 // How many bytes the page has.
 const PAGE_LENGTH: usize = 65520;
 
-// Prints a report's answer: its rows or its refusal.
-fn list(reported: Result<usize, Refusal>, page: &[u8]) {
-    match reported {
-        Ok(count) => {
-            say_rows(b"", page, count);
-        }
-        Err(refusal) => {
-            say_refusal(refusal);
-        }
-    }
+// What the input asks for: the report on terms and a log at a moment.
+#[derive(Drop)]
+struct Request {
+    terms: Vec<u8>,
+    log: Vec<u8>,
+    moment: u32,
 }
 
-// Reads terms and log into buffers of their lengths and lists the report. Whether the input had just these bytes.
-fn run(terms: &mut [u8], log: &mut [u8], moment: u32) -> bool {
-    if !fill(terms) {
-        return false;
-    }
-    if !fill(log) {
-        return false;
-    }
-    if !at_end() {
-        return false;
-    }
-    let mut page = [0u8; PAGE_LENGTH];
-    let reported = report(terms, log, log.len(), moment, &mut page);
-    list(reported, &page);
-    true
-}
-
-// Reads the head, and what it announces where that keeps the limits. Whether the input is as it has to be.
-fn run_within(head: &mut [u8], terms: &mut [u8], log: &mut [u8]) -> bool
-    requires { length head.old ≡ 12 }
+// A length that the input announces; it is bad past a limit.
+fn read_length<R: Read>(input: &mut R, limit: usize) -> Result<usize, Failure>
+    ensures { IfOk result (λ length. length ≤ limit) }
 {
-    if !fill(head) {
-        return false;
+    let length = read_number(input)? as usize;
+    if limit < length {
+        return Err(Failure::BadInput);
     }
-    let terms_length = u32_at(head, 0) as usize;
-    let log_length = u32_at(head, 4) as usize;
-    if terms.len() < terms_length {
-        return false;
-    }
-    if log.len() < log_length {
-        return false;
-    }
-    run(
-        &mut terms[..terms_length],
-        &mut log[..log_length],
-        u32_at(head, 8),
-    )
+    Ok(length)
 }
 
-fn main() {
-    let mut head = [0u8; HEAD_LENGTH];
-    let mut terms = [0u8; TERMS_LIMIT];
-    let mut log = [0u8; LOG_LIMIT];
-    if !run_within(&mut head, &mut terms, &mut log) {
-        say(b"bad input\n");
+// Reads the whole input.
+fn read_request<R: Read>(alloc: Global, input: &mut R) -> Result<Request, Failure> {
+    let of_terms = read_length(input, TERMS_LIMIT)?;
+    let of_log = read_length(input, LOG_LIMIT)?;
+    let moment = read_number(input)?;
+    let terms = read_bytes(alloc, input, of_terms)?;
+    let log = read_bytes(alloc, input, of_log)?;
+    if !at_end(input) {
+        return Err(Failure::BadInput);
+    }
+    Ok(Request { terms, log, moment })
+}
+
+// Prints the rows of the report, or its refusal.
+fn list(rt: &impl Print, alloc: Global, request: &Request) -> io::Result<()> {
+    let mut page = vec![in alloc; 0; PAGE_LENGTH]?;
+    let log = &request.log;
+    match report(&request.terms, log, log.len(), request.moment, &mut page) {
+        Reported::Refused(refusal) => println!(rt; "{refusal}"),
+        Reported::Count(count) => {
+            let (rows, _) = split_rows(alloc, &page, count)?;
+            for row in &rows {
+                println!(rt; "{row}")?;
+            }
+            Ok(())
+        }
+    }
+}
+
+fn main(rt: HostRuntime) -> io::Result<()> {
+    match read_request(rt.alloc(), &mut rt.reader()) {
+        Ok(request) => list(&rt, rt.alloc(), &request),
+        Err(Failure::BadInput) => println!(rt; "bad input"),
+        Err(Failure::Io(error)) => Err(error),
     }
 }

@@ -1,3 +1,0 @@
--- What the contracts of the program's functions share.
-pub mod Lends
-pub mod Within

@@ -1,0 +1,3 @@
+-- Proofs over the programs' common functions.
+mod RowReading
+mod InputReading

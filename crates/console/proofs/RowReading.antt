@@ -1,0 +1,67 @@
+-- A row that is read from eighteen bytes has these bytes. Assumes nothing.
+use Rattle.std.proofs.Common.{arith, ◌≡◌, refl, ap, sym, ◌∙◌, ℕ, zero, suc, ◌+◌, ◌≤◌, ◌<◌, List, [], ◌∷◌, ◌++◌, length, take, drop, get_or}
+use Rattle.std.proofs.lemmas.Grind.{common_steps}
+use Rattle.std.proofs.lemmas.List.{take-append-drop, drop_all, append-nil}
+use lib.ListN.{length-drop}
+use lib.Seq.{drop-drop}
+use Rattle.meaning.specs.Lists.{All}
+use Rattle.meaning.specs.declared.Stage.{Stage}
+use Rattle.meaning.specs.declared.Row.{Row}
+use Rattle.meaning.specs.declared.StageForm.TheVariants.{Is, NotAStage}
+use Rattle.meaning.specs.Stages.{stage_number, stage_of}
+use Rattle.format.specs.Bytes.{bytes_of, number_of, number_at}
+use Rattle.format.specs.Records.{row_bytes, value_width}
+use Rattle.meaning.proofs.ListLaws.{all_drop}
+use Rattle.format.proofs.NumberLaws.{front_bytes}
+
+-- bytes, one by one, are bytes
+pub all-bytes : (s : List ℕ) → ((i : ℕ) → get_or s i 0 < 256) → All (λ b. b < 256) s
+all-bytes [] h = tt
+all-bytes (b ∷ s) h = (h 0, all-bytes s (λ i. h (suc i)))
+
+-- the number at a place, written before what follows it
+number_back : (s : List ℕ) (at : ℕ) → at + 4 ≤ length s → All (λ b. b < 256) s → bytes_of 4 (number_at 4 s at) ++ drop (at + 4) s ≡ drop at s
+unfolding number_at
+number_back s at inside h =
+    ap (λ (t : List ℕ). bytes_of 4 (number_of (take 4 (drop at s))) ++ t) (sym (drop-drop 4 at s))
+    ∙ ap (λ (t : List ℕ). t ++ drop 4 (drop at s)) (front_bytes 4 (drop at s) (omega (arith, length-drop at s)) (all_drop (λ b. b < 256) at s h))
+    ∙ take-append-drop 4 (drop at s)
+
+-- the same of the last number
+last_back : (s : List ℕ) (at : ℕ) → at + 4 ≡ length s → All (λ b. b < 256) s → bytes_of 4 (number_at 4 s at) ≡ drop at s
+last_back s at end h =
+    sym (append-nil (bytes_of 4 (number_at 4 s at)))
+    ∙ ap (λ (t : List ℕ). bytes_of 4 (number_at 4 s at) ++ t) (sym (drop_all (at + 4) s (omega (arith, end))))
+    ∙ number_back s at (omega (arith, end)) h
+
+-- four bytes, written
+pub four_back : (s : List ℕ) → length s ≡ 4 → All (λ b. b < 256) s → bytes_of 4 (number_at 4 s 0) ≡ s
+four_back s long h = last_back s 0 (sym long) h
+
+-- the four numbers of a row, written
+numbers_back : (s : List ℕ) → length s ≡ 18 → All (λ b. b < 256) s
+    → bytes_of 4 (number_at 4 s 2) ++ (bytes_of 4 (number_at 4 s 6) ++ (bytes_of 4 (number_at 4 s 10) ++ bytes_of 4 (number_at 4 s 14))) ≡ drop 2 s
+numbers_back s long h =
+    ap (λ (t : List ℕ). bytes_of 4 (number_at 4 s 2) ++ (bytes_of 4 (number_at 4 s 6) ++ (bytes_of 4 (number_at 4 s 10) ++ t))) (last_back s 14 (sym long) h)
+    ∙ ap (λ (t : List ℕ). bytes_of 4 (number_at 4 s 2) ++ (bytes_of 4 (number_at 4 s 6) ++ t)) (number_back s 10 (omega (arith, long)) h)
+    ∙ ap (λ (t : List ℕ). bytes_of 4 (number_at 4 s 2) ++ t) (number_back s 6 (omega (arith, long)) h)
+    ∙ number_back s 2 (omega (arith, long)) h
+
+-- a stage that a byte names has it for its number
+pub stage_named : (form : ℕ) (stage : Stage) → stage_of form ≡ Is stage → stage_number stage ≡ form
+stage_named form stage e = grind (arith, common_steps)
+
+-- the row, written
+pub row_back : (stage : Stage) (s : List ℕ) → length s ≡ 18 → All (λ b. b < 256) s → stage_number stage ≡ get_or s 0 0
+    → row_bytes value_width (record {
+      stage = stage;
+      schema = get_or s 1 0;
+      key = number_at 4 s 2;
+      privileged = number_at 4 s 6;
+      liable = number_at 4 s 10;
+      time = number_at 4 s 14;
+    }) ≡ s
+unfolding row_bytes
+row_back stage [] long h e = absurd (omega (arith, long))
+row_back stage (a ∷ []) long h e = absurd (omega (arith, long))
+row_back stage (a ∷ b ∷ s) long h e = ap (λ (t : List ℕ). stage_number stage ∷ b ∷ t) (numbers_back (a ∷ b ∷ s) long h) ∙ ap (λ (x : ℕ). x ∷ b ∷ s) e

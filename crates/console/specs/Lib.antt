@@ -1,0 +1,2 @@
+-- What the contracts of the programs' common functions share.
+pub mod Rows

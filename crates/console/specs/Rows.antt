@@ -1,0 +1,8 @@
+-- The bytes of a report's rows. Assumes nothing: these are definitions.
+use Rattle.std.specs.Prelude.{ℕ, List, flat_map}
+use Rattle.meaning.specs.declared.Row.{Row}
+use Rattle.format.specs.Records.{row_bytes, value_width}
+
+-- rows one behind another, as a page has them
+abbrev pub rows_bytes : List Row → List ℕ
+rows_bytes rows = flat_map (row_bytes value_width) rows
