@@ -1,5 +1,6 @@
 // A case as the text writes it.
-ghost use Rattle.std.specs.Prelude.{◌<◌, ◌≤◌, length, OnOk};
+ghost use Rattle.std.specs.Prelude.{◌<◌, ◌≤◌, OnOk};
+ghost use Rattle.cases.specs.Left.{left};
 
 use crate::token::{Token, number_of, starts_token};
 use crate::words::Words;
@@ -54,7 +55,9 @@ pub(crate) struct Case<'a> {
 }
 
 // The next word, a number up to a limit.
-fn read_number(words: &mut Words<'_>, limit: usize) -> Result<usize, Failure> {
+fn read_number(words: &mut Words<'_>, limit: usize) -> Result<usize, Failure>
+    ensures { left words.new ≤ left words.old }
+{
     words
         .next()
         .and_then(number_of)
@@ -63,13 +66,17 @@ fn read_number(words: &mut Words<'_>, limit: usize) -> Result<usize, Failure> {
 }
 
 // The next word, a number of four bytes.
-fn read_word(words: &mut Words<'_>) -> Result<u32, Failure> {
+fn read_word(words: &mut Words<'_>) -> Result<u32, Failure>
+    ensures { left words.new ≤ left words.old }
+{
     let number = words.next().and_then(number_of).ok_or(Failure::BadInput)?;
     u32::try_from(number).or(Err(Failure::BadInput))
 }
 
 // The bytes of the tokens that come next, as many as there is room for.
-fn read_bytes(alloc: Global, words: &mut Words<'_>, room: usize) -> Result<Vec<u8>, Failure> {
+fn read_bytes(alloc: Global, words: &mut Words<'_>, room: usize) -> Result<Vec<u8>, Failure>
+    ensures { left words.new ≤ left words.old }
+{
     let mut bytes = Vec::new(alloc);
     while let Some(word) = words.next_if(starts_token) {
         Token::read(alloc, word)?.put(&mut bytes, room)?;
@@ -83,7 +90,9 @@ fn read_section(
     words: &mut Words<'_>,
     keyword: &[u8],
     room: usize,
-) -> Result<Option<Vec<u8>>, Failure> {
+) -> Result<Option<Vec<u8>>, Failure>
+    ensures { left words.new ≤ left words.old }
+{
     if !words.take(keyword) {
         return Ok(None);
     }
@@ -91,7 +100,9 @@ fn read_section(
 }
 
 // Where the log buffer comes from, if that is said.
-fn read_log(alloc: Global, words: &mut Words<'_>) -> Result<Option<Log>, Failure> {
+fn read_log(alloc: Global, words: &mut Words<'_>) -> Result<Option<Log>, Failure>
+    ensures { left words.new ≤ left words.old }
+{
     if words.take(b"held") {
         return Ok(Some(Log::Held));
     }
@@ -99,7 +110,9 @@ fn read_log(alloc: Global, words: &mut Words<'_>) -> Result<Option<Log>, Failure
 }
 
 // The used length, if it is given.
-fn read_used(words: &mut Words<'_>) -> Result<Option<usize>, Failure> {
+fn read_used(words: &mut Words<'_>) -> Result<Option<usize>, Failure>
+    ensures { left words.new ≤ left words.old }
+{
     if !words.take(b"used") {
         return Ok(None);
     }
@@ -107,7 +120,9 @@ fn read_used(words: &mut Words<'_>) -> Result<Option<usize>, Failure> {
 }
 
 // Behind `report`: what is asked for.
-fn read_report(words: &mut Words<'_>) -> Result<Call, Failure> {
+fn read_report(words: &mut Words<'_>) -> Result<Call, Failure>
+    ensures { left words.new ≤ left words.old }
+{
     let moment = read_word(words)?;
     let page = read_number(words, PAGE_ROOM)?;
     let strike = if words.take(b"strike") {
@@ -123,7 +138,9 @@ fn read_report(words: &mut Words<'_>) -> Result<Call, Failure> {
 }
 
 // Behind `standing`: what is asked for.
-fn read_standing(words: &mut Words<'_>) -> Result<Call, Failure> {
+fn read_standing(words: &mut Words<'_>) -> Result<Call, Failure>
+    ensures { left words.new ≤ left words.old }
+{
     Ok(Call::Standing {
         schema: read_number(words, LARGEST)?,
         key: read_word(words)?,
@@ -132,7 +149,9 @@ fn read_standing(words: &mut Words<'_>) -> Result<Call, Failure> {
 }
 
 // The call that is asked for, if one is.
-fn read_call(alloc: Global, words: &mut Words<'_>) -> Result<Option<Call>, Failure> {
+fn read_call(alloc: Global, words: &mut Words<'_>) -> Result<Option<Call>, Failure>
+    ensures { left words.new ≤ left words.old }
+{
     if let Some(event) = read_section(alloc, words, b"append", EVENT_ROOM)? {
         return Ok(Some(Call::Append(event)));
     }
@@ -146,7 +165,9 @@ fn read_call(alloc: Global, words: &mut Words<'_>) -> Result<Option<Call>, Failu
 }
 
 // The next case. Without a word for a call it asks for call 2 if log, held or used stands there, else for call 1.
-pub(crate) fn read_case<'a>(alloc: Global, words: &mut Words<'a>) -> Result<Case<'a>, Failure> {
+pub(crate) fn read_case<'a>(alloc: Global, words: &mut Words<'a>) -> Result<Case<'a>, Failure>
+    ensures { OnOk result (left words.new < left words.old) }
+{
     if !words.take(b"case") {
         return Err(Failure::BadInput);
     }

@@ -28,20 +28,30 @@ impl State {
         }
     }
 
-    // Runs a case and prints its name and the answer.
-    pub(crate) fn run(&mut self, rt: &impl Print, alloc: Global, case: Case<'_>) -> io::Result<()> {
-        if let Some(terms) = case.terms {
+    // Takes over what a case gives.
+    fn take(&mut self, terms: Option<Vec<u8>>, log: Log, used: Option<usize>) {
+        if let Some(terms) = terms {
             self.terms = terms;
         }
-        if let Log::Given(log) = case.log {
+        if let Log::Given(log) = log {
             self.used = log.len();
             self.log = log;
         }
-        if let Some(used) = case.used {
-            self.used = used;
-        }
-        rt.write_all(case.name)?;
-        self.call(rt, alloc, case.call)
+        self.used = used.unwrap_or(self.used);
+    }
+
+    // Runs a case and prints its name and the answer.
+    pub(crate) fn run(&mut self, rt: &impl Print, alloc: Global, case: Case<'_>) -> io::Result<()> {
+        let Case {
+            name,
+            terms,
+            log,
+            used,
+            call,
+        } = case;
+        self.take(terms, log, used);
+        rt.write_all(name)?;
+        self.call(rt, alloc, call)
     }
 
     // Asks for a call and prints the answer.

@@ -1,5 +1,6 @@
 // The words of a text, one after another.
-ghost use Rattle.std.specs.Prelude.{◌+◌, ◌<◌, ◌≤◌, ◌≡◌, IfSome, length};
+ghost use Rattle.std.specs.Prelude.{◌<◌, ◌≤◌, ◌≡◌, ◌↔◌, IfSome, IsTrue, length};
+ghost use Rattle.cases.specs.Left.{left};
 
 // What is left of a text, from the start of a word on.
 #[derive(Drop)]
@@ -50,17 +51,25 @@ impl<'a> Words<'a> {
     }
 
     // Whether no word is left.
-    pub(crate) fn is_empty(&self) -> bool {
+    pub(crate) fn is_empty(&self) -> bool
+        ensures { IsTrue result ↔ (left self.now ≡ 0) }
+    {
         self.rest.is_empty()
     }
 
     // Takes the next word, if one is left.
-    pub(crate) fn next(&mut self) -> Option<&'a [u8]> {
+    pub(crate) fn next(&mut self) -> Option<&'a [u8]>
+        ensures { left self.new ≤ left self.old }
+    {
         self.next_if(|_| true)
     }
 
     // Takes the next word, if one is left and the test holds of it.
-    pub(crate) fn next_if<F: FnOnce(&[u8]) -> bool>(&mut self, test: F) -> Option<&'a [u8]> {
+    pub(crate) fn next_if<F: FnOnce(&[u8]) -> bool>(&mut self, test: F) -> Option<&'a [u8]>
+        requires { F.IsAlwaysCallable test }
+        ensures falls { left self.new ≤ left self.old }
+        ensures taken { IfSome result (λ word. left self.new < left self.old) }
+    {
         let word = front_word(self.rest);
         if word.is_empty() || !test(word) {
             return None;
@@ -70,7 +79,10 @@ impl<'a> Words<'a> {
     }
 
     // Takes the next word, if it is this one. Whether it is.
-    pub(crate) fn take(&mut self, keyword: &[u8]) -> bool {
+    pub(crate) fn take(&mut self, keyword: &[u8]) -> bool
+        ensures falls { left self.new ≤ left self.old }
+        ensures taken { IsTrue result → left self.new < left self.old }
+    {
         self.next_if(|word| word == keyword).is_some()
     }
 

@@ -8,280 +8,117 @@
 // The bytes are terms, log buffer, event; then the buffer as call 3 left it, and the page as call 4 did.
 #![tactic(auto)]
 
-mod answers;
+mod answer;
+mod case;
 
-ghost use Rattle.std.specs.Prelude.{◌+◌, ◌≤◌, length};
-ghost use Rattle.io.specs.Counts.{IsPrefixLen};
+ghost use Rattle.std.specs.Prelude.{◌≤◌, IfOk};
 
-use answers::{number, same_appended, same_checked, same_reported, same_standing};
+use answer::Answer;
 use append::append;
-use console::{at_end, fill, say, say_number};
+use case::{Case, read_case};
+use console::{Failure, at_end, read_number};
 use event_log::check_log;
 use report::{report, standing};
+use std::alloc::Global;
+use std::io;
+use std::io::{BufReader, Read};
 use terms::check_terms;
 
 // What stands in each byte of a page before call 4.
 const UNWRITTEN: u8 = 165;
 
 // How many calls a case compares.
-const CALLS: usize = 5;
-
-// How many bytes there is room for: of the head, and of terms, log buffer, event and page, as tests/make-cases keeps to it.
-const HEAD_ROOM: usize = 80;
-
-const TERMS_ROOM: usize = 16400;
-
-const LOG_ROOM: usize = 32800;
-
-const EVENT_ROOM: usize = 100;
-
-const PAGE_ROOM: usize = 2000;
-
-// And of log buffer and page as the calls leave them.
-const AFTER_ROOM: usize = 34800;
-
-// What comes of a case: whether the input has all of its bytes, and how many of its answers differ.
-#[derive(Clone, Copy)]
-struct Compared {
-    whole: bool,
-    different: usize,
-}
-
-// Makes each byte of a page one that nobody has written.
-fn clear(page: &mut [u8]) {
-    let mut i: usize = 0;
-    while i < page.len() {
-        page[i] = UNWRITTEN;
-        i += 1;
-    }
-}
+const CALLS: u64 = 5;
 
 // Prints that an answer differs, where it does. How many that are.
-fn tell(same: bool, case: usize, call: u64) -> usize
-    ensures { result ≤ 1 }
+fn tell(rt: &impl Print, case: u32, call: u32, same: bool) -> io::Result<u64>
+    ensures { IfOk result (λ different. different ≤ 1) }
 {
     if same {
-        return 0;
+        return Ok(0);
     }
-    say(b"case ");
-    say_number(case as u64);
-    say(b": call ");
-    say_number(call);
-    say(b" differs\n");
-    1
+    println!(rt; "case {case}: call {call} differs")?;
+    Ok(1)
 }
 
 // Compares calls 1 and 2. How many answers differ.
-fn compare_checks(head: &[u8], terms: &[u8], log: &[u8], case: usize) -> usize
-    ensures { result ≤ 2 }
+fn compare_checks(rt: &impl Print, number: u32, case: &Case) -> io::Result<u64>
+    ensures { IfOk result (λ different. different ≤ 2) }
 {
-    let of_terms = check_terms(terms);
-    let of_log = check_log(terms, log, number(head, 2) as usize);
-    tell(same_checked(head, 8, of_terms), case, 1) + tell(same_checked(head, 9, of_log), case, 2)
+    let terms = Answer::from(check_terms(&case.terms));
+    let log = Answer::from(check_log(&case.terms, &case.log, case.used));
+    let first = tell(rt, number, 1, terms == case.answers.check_terms)?;
+    Ok(first + tell(rt, number, 2, log == case.answers.check_log)?)
 }
 
-// Compares calls 4 and 5. How many answers differ.
-fn compare_reports(
-    head: &[u8],
-    terms: &[u8],
-    log: &[u8],
-    page: &mut [u8],
-    after: &[u8],
-    case: usize,
-) -> usize
-    ensures { result ≤ 2 }
+// Compares calls 4 and 5, and each byte of the page. How many answers differ.
+fn compare_reports(rt: &impl Print, alloc: Global, number: u32, case: &Case) -> io::Result<u64>
+    ensures { IfOk result (λ different. different ≤ 2) }
 {
-    let used = number(head, 2) as usize;
-    let moment = number(head, 5);
-    let reported = report(terms, log, used, moment, page);
-    let stands = standing(
-        terms,
-        log,
-        used,
-        number(head, 6) as usize,
-        number(head, 7),
-        moment,
-    );
-    tell(same_reported(head, reported, page, after), case, 4)
-        + tell(same_standing(head, stands), case, 5)
+    let mut page = vec![in alloc; UNWRITTEN; case.page_after.len()]?;
+    let rows = Answer::from(report(&case.terms, &case.log, case.used, case.moment, &mut page));
+    let entries = Answer::from(standing(
+        &case.terms,
+        &case.log,
+        case.used,
+        case.schema,
+        case.key,
+        case.moment,
+    ));
+    let same = page == case.page_after && rows == case.answers.report;
+    let fourth = tell(rt, number, 4, same)?;
+    Ok(fourth + tell(rt, number, 5, entries == case.answers.standing)?)
 }
 
-// Compares call 3. How many answers differ.
-fn compare_append(
-    head: &[u8],
-    terms: &[u8],
-    log: &mut [u8],
-    event: &[u8],
-    after: &[u8],
-    case: usize,
-) -> usize
-    ensures { result ≤ 1 }
+// Compares call 3, and each byte of the log buffer, in which it writes. How many answers differ.
+fn compare_append(rt: &impl Print, number: u32, mut case: Case) -> io::Result<u64>
+    ensures { IfOk result (λ different. different ≤ 1) }
 {
-    let appended = append(terms, log, number(head, 2) as usize, event);
-    tell(same_appended(head, appended, log, after), case, 3)
+    let length = Answer::from(append(&case.terms, &mut case.log, case.used, &case.event));
+    let same = case.log == case.log_after && length == case.answers.append;
+    tell(rt, number, 3, same)
 }
 
-// Compares the calls of a case. Afterwards the log has to have the first bytes of `after`, the page those that follow. How many answers differ.
-fn compare(
-    head: &[u8],
-    terms: &[u8],
-    log: &mut [u8],
-    event: &[u8],
-    page: &mut [u8],
-    after: &[u8],
-    case: usize,
-) -> usize
-    requires { length log.old ≤ length after.now }
-    ensures { result ≤ 5 }
+// Compares the calls of a case. How many answers differ.
+fn compare(rt: &impl Print, alloc: Global, number: u32, case: Case) -> io::Result<u64>
+    ensures { IfOk result (λ different. different ≤ 5) }
 {
-    let end = log.len();
-    let checks = compare_checks(head, terms, log, case);
-    let reports = compare_reports(head, terms, log, page, &after[end..], case);
-    checks + reports + compare_append(head, terms, log, event, &after[..end], case)
+    let checks = compare_checks(rt, number, &case)?;
+    let reports = compare_reports(rt, alloc, number, &case)?;
+    Ok(checks + reports + compare_append(rt, number, case)?)
 }
 
-// Reads the bytes of a case into buffers of their lengths. Whether the input has them.
-fn read(terms: &mut [u8], log: &mut [u8], event: &mut [u8], after: &mut [u8]) -> bool {
-    if !fill(terms) {
-        return false;
+// Compares the cases of the input, which has to have no more bytes. How many cases there are, and how many answers differ.
+fn compare_all<R: Read>(
+    rt: &impl Print,
+    alloc: Global,
+    input: &mut R,
+) -> Result<(u32, u64), Failure> {
+    let cases = read_number(input)?;
+    let mut different = 0;
+    for number in 0..cases {
+        let case = read_case(alloc, input)?;
+        different += compare(rt, alloc, number, case)?;
     }
-    if !fill(log) {
-        return false;
+    if !at_end(input) {
+        return Err(Failure::BadInput);
     }
-    if !fill(event) {
-        return false;
-    }
-    fill(after)
+    Ok((cases, different))
 }
 
-// Reads the bytes of a case into buffers of their lengths and compares its calls.
-fn compare_read(
-    head: &[u8],
-    terms: &mut [u8],
-    log: &mut [u8],
-    event: &mut [u8],
-    page: &mut [u8],
-    after: &mut [u8],
-    case: usize,
-) -> Compared
-    requires { length log.old ≤ length after.old }
-    ensures { result.different ≤ 5 }
-{
-    if !read(terms, log, event, after) {
-        return Compared {
-            whole: false,
-            different: 0,
-        };
-    }
-    clear(page);
-    Compared {
-        whole: true,
-        different: compare(head, terms, log, event, page, after, case),
-    }
+// Compares the cases of standard input and prints how many answers were compared and how many differ.
+fn run(rt: &(impl Print + Input), alloc: Global) -> Result<(), Failure> {
+    let mut input = BufReader::new(alloc, rt.reader())?;
+    let (cases, different) = compare_all(rt, alloc, &mut input)?;
+    let answers = u64::from(cases) * CALLS;
+    println!(rt; "{cases} cases, {answers} answers compared, {different} different")?;
+    Ok(())
 }
 
-// So many bytes of a buffer as a number of the head says, but no more than it has.
-fn size(head: &[u8], place: u8, buffer: &[u8]) -> usize
-    ensures { IsPrefixLen result buffer.now }
-{
-    io::count(number(head, place) as isize, buffer)
-}
-
-// Compares the calls of a case whose head is read, in the parts of the buffers that the head announces.
-fn compare_sized(
-    head: &[u8],
-    terms: &mut [u8],
-    log: &mut [u8],
-    event: &mut [u8],
-    page: &mut [u8],
-    after: &mut [u8],
-    case: usize,
-) -> Compared
-    requires { length log.old + length page.old ≤ length after.old }
-    ensures { result.different ≤ 5 }
-{
-    let of_terms = size(head, 0, terms);
-    let of_log = size(head, 1, log);
-    let of_event = size(head, 3, event);
-    let of_page = size(head, 4, page);
-    compare_read(
-        head,
-        &mut terms[..of_terms],
-        &mut log[..of_log],
-        &mut event[..of_event],
-        &mut page[..of_page],
-        &mut after[..of_log + of_page],
-        case,
-    )
-}
-
-// Reads the next case and compares its calls.
-fn compare_next(case: usize) -> Compared
-    ensures { result.different ≤ 5 }
-{
-    let mut head = [0u8; HEAD_ROOM];
-    if !fill(&mut head) {
-        return Compared {
-            whole: false,
-            different: 0,
-        };
+fn main(rt: HostRuntime) -> io::Result<()> {
+    match run(&rt, rt.alloc()) {
+        Ok(()) => Ok(()),
+        Err(Failure::BadInput) => println!(rt; "bad cases"),
+        Err(Failure::Io(error)) => Err(error),
     }
-    let mut terms = [0u8; TERMS_ROOM];
-    let mut log = [0u8; LOG_ROOM];
-    let mut event = [0u8; EVENT_ROOM];
-    let mut page = [0u8; PAGE_ROOM];
-    let mut after = [0u8; AFTER_ROOM];
-    compare_sized(
-        &head, &mut terms, &mut log, &mut event, &mut page, &mut after, case,
-    )
-}
-
-// Compares so many cases. Whether the input has them and no more, and how many answers differ.
-fn compare_all(cases: usize) -> Compared
-    requires { cases ≤ 4294967295 }
-{
-    let mut different: usize = 0;
-    let mut case: usize = 0;
-    while case < cases {
-        let compared = compare_next(case);
-        different += compared.different;
-        if !compared.whole {
-            return Compared {
-                whole: false,
-                different,
-            };
-        }
-        case += 1;
-    }
-    Compared {
-        whole: at_end(),
-        different,
-    }
-}
-
-// Prints how many answers were compared and how many differ.
-fn show(cases: usize, different: usize)
-    requires { cases ≤ 4294967295 }
-{
-    say_number(cases as u64);
-    say(b" cases, ");
-    say_number((cases * CALLS) as u64);
-    say(b" answers compared, ");
-    say_number(different as u64);
-    say(b" different\n");
-}
-
-fn main() {
-    let mut count = [0u8; 4];
-    if !fill(&mut count) {
-        say(b"bad cases\n");
-        return;
-    }
-    let cases = number(&count, 0) as usize;
-    let compared = compare_all(cases);
-    if !compared.whole {
-        say(b"bad cases\n");
-        return;
-    }
-    show(cases, compared.different);
 }

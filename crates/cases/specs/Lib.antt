@@ -1,0 +1,2 @@
+-- What the contracts of the program's functions share.
+pub mod Left
