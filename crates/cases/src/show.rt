@@ -1,5 +1,5 @@
 // Prints what the calls answer.
-use calls::{Appended, Checked, Reported, Standing};
+use calls::Refusal;
 use console::split_rows;
 use meaning::{Entries, Row, Time};
 use std::alloc::Global;
@@ -10,10 +10,10 @@ use std::ops::Range;
 pub(crate) const UNWRITTEN: u8 = 255;
 
 // Prints the answer of call 1 or 2.
-pub(crate) fn show_checked(rt: &impl Print, checked: Checked) -> io::Result<()> {
+pub(crate) fn show_checked(rt: &impl Print, checked: Result<(), Refusal>) -> io::Result<()> {
     match checked {
-        Checked::Accepted => println!(rt; ": accepted"),
-        Checked::Refused(refusal) => println!(rt; ": {refusal}"),
+        Ok(()) => println!(rt; ": accepted"),
+        Err(refusal) => println!(rt; ": {refusal}"),
     }
 }
 
@@ -37,18 +37,18 @@ fn show_page(rt: &impl Print, page: &[u8]) -> io::Result<()> {
 pub(crate) fn show_reported(
     rt: &impl Print,
     alloc: Global,
-    reported: Reported,
+    reported: Result<usize, Refusal>,
     page: &[u8],
 ) -> io::Result<Vec<Row>> {
     match reported {
-        Reported::Count(count) => {
+        Ok(count) => {
             let (rows, rest) = split_rows(alloc, page, count)?;
             println!(rt; ": {count} rows")?;
             show_rows(rt, &rows)?;
             show_page(rt, rest)?;
             Ok(rows)
         }
-        Reported::Refused(refusal) => {
+        Err(refusal) => {
             println!(rt; ": {refusal}")?;
             show_page(rt, page)?;
             Ok(Vec::new(alloc))
@@ -85,19 +85,19 @@ fn show_log(rt: &impl Print, before: &[u8], log: &[u8], put: Range<usize>) -> io
 // length that goes on.
 pub(crate) fn show_appended(
     rt: &impl Print,
-    appended: Appended,
+    appended: Result<usize, Refusal>,
     used: usize,
     before: &[u8],
     log: &[u8],
 ) -> io::Result<usize> {
     match appended {
-        Appended::Length(length) => {
+        Ok(length) => {
             println!(rt; ": length {length}")?;
             show_put(rt, log.get(used..length).unwrap_or(&[]))?;
             show_log(rt, before, log, used..length)?;
             Ok(length)
         }
-        Appended::Refused(refusal) => {
+        Err(refusal) => {
             println!(rt; ": {refusal}")?;
             show_log(rt, before, log, used..used)?;
             Ok(used)
@@ -130,9 +130,9 @@ fn show_entries(rt: &impl Print, entries: Entries) -> io::Result<()> {
 }
 
 // Prints the answer of call 5.
-pub(crate) fn show_standing(rt: &impl Print, standing: Standing) -> io::Result<()> {
-    match standing {
-        Standing::Shown(entries) => show_entries(rt, entries),
-        Standing::Refused(refusal) => println!(rt; ": {refusal}"),
+pub(crate) fn show_standing(rt: &impl Print, stands: Result<Entries, Refusal>) -> io::Result<()> {
+    match stands {
+        Ok(entries) => show_entries(rt, entries),
+        Err(refusal) => println!(rt; ": {refusal}"),
     }
 }

@@ -11,13 +11,14 @@
 mod answer;
 mod case;
 
-ghost use Rattle.std.specs.Prelude.{◌≤◌, IfOk};
+ghost use Rattle.std.specs.Prelude.{◌*◌, ◌≤◌, IfOk};
 
 use answer::Answer;
 use append::append;
 use case::{Case, read_case};
 use console::{Failure, at_end, read_number};
 use event_log::check_log;
+use meaning::{Entries, Time};
 use report::{report, standing};
 use std::alloc::Global;
 use std::io;
@@ -26,6 +27,15 @@ use terms::check_terms;
 
 // What stands in each byte of a page before call 4.
 const UNWRITTEN: u8 = 165;
+
+// What stands for the entries of a standing that is refused.
+const NO_ENTRIES: Entries = Entries {
+    created: Time::Never,
+    detached: Time::Never,
+    expired: Time::Never,
+    discharged: Time::Never,
+    violated: Time::Never,
+};
 
 // How many calls a case compares.
 const CALLS: u64 = 5;
@@ -45,8 +55,8 @@ fn tell(rt: &impl Print, case: u32, call: u32, same: bool) -> io::Result<u64>
 fn compare_checks(rt: &impl Print, number: u32, case: &Case) -> io::Result<u64>
     ensures { IfOk result (λ different. different ≤ 2) }
 {
-    let terms = Answer::from(check_terms(&case.terms));
-    let log = Answer::from(check_log(&case.terms, &case.log, case.used));
+    let terms = Answer::of(check_terms(&case.terms), ());
+    let log = Answer::of(check_log(&case.terms, &case.log, case.used), ());
     let first = tell(rt, number, 1, terms == case.answers.check_terms)?;
     Ok(first + tell(rt, number, 2, log == case.answers.check_log)?)
 }
@@ -55,16 +65,17 @@ fn compare_checks(rt: &impl Print, number: u32, case: &Case) -> io::Result<u64>
 fn compare_reports(rt: &impl Print, alloc: Global, number: u32, case: &Case) -> io::Result<u64>
     ensures { IfOk result (λ different. different ≤ 2) }
 {
+    let Case {
+        terms,
+        log,
+        used,
+        moment,
+        ..
+    } = case;
     let mut page = vec![in alloc; UNWRITTEN; case.page_after.len()]?;
-    let rows = Answer::from(report(&case.terms, &case.log, case.used, case.moment, &mut page));
-    let entries = Answer::from(standing(
-        &case.terms,
-        &case.log,
-        case.used,
-        case.schema,
-        case.key,
-        case.moment,
-    ));
+    let rows = Answer::of(report(terms, log, *used, *moment, &mut page), 0);
+    let stands = standing(terms, log, *used, case.schema, case.key, *moment);
+    let entries = Answer::of(stands, NO_ENTRIES);
     let same = page == case.page_after && rows == case.answers.report;
     let fourth = tell(rt, number, 4, same)?;
     Ok(fourth + tell(rt, number, 5, entries == case.answers.standing)?)
@@ -74,7 +85,8 @@ fn compare_reports(rt: &impl Print, alloc: Global, number: u32, case: &Case) -> 
 fn compare_append(rt: &impl Print, number: u32, mut case: Case) -> io::Result<u64>
     ensures { IfOk result (λ different. different ≤ 1) }
 {
-    let length = Answer::from(append(&case.terms, &mut case.log, case.used, &case.event));
+    let appended = append(&case.terms, &mut case.log, case.used, &case.event);
+    let length = Answer::of(appended, 0);
     let same = case.log == case.log_after && length == case.answers.append;
     tell(rt, number, 3, same)
 }
@@ -93,7 +105,9 @@ fn compare_all<R: Read>(
     rt: &impl Print,
     alloc: Global,
     input: &mut R,
-) -> Result<(u32, u64), Failure> {
+) -> Result<(u32, u64), Failure>
+    ensures { IfOk result (λ compared. compared.1 ≤ 5 * compared.0) }
+{
     let cases = read_number(input)?;
     let mut different = 0;
     for number in 0..cases {

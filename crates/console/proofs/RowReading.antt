@@ -2,17 +2,20 @@
 use Rattle.std.proofs.Common.{arith, ◌≡◌, refl, ap, sym, ◌∙◌, ℕ, zero, suc, ◌+◌, ◌≤◌, ◌<◌, List, [], ◌∷◌, ◌++◌, length, take, drop, get_or}
 use Rattle.std.proofs.lemmas.Grind.{common_steps}
 use Rattle.std.proofs.lemmas.List.{take-append-drop, drop_all, append-nil}
-use lib.ListN.{length-drop}
-use lib.Seq.{drop-drop}
+use lib.ListN.{length-drop, length-append}
+use lib.Seq.{drop-drop, take_at}
 use Rattle.meaning.specs.Lists.{All}
 use Rattle.meaning.specs.declared.Stage.{Stage}
+use Rattle.meaning.specs.declared.Stage.TheVariants.{Created, Detached, Expired, Discharged, Violated}
 use Rattle.meaning.specs.declared.Row.{Row}
 use Rattle.meaning.specs.declared.StageForm.TheVariants.{Is, NotAStage}
 use Rattle.meaning.specs.Stages.{stage_number, stage_of}
 use Rattle.format.specs.Bytes.{bytes_of, number_of, number_at}
-use Rattle.format.specs.Records.{row_bytes, value_width}
+use Rattle.format.specs.Records.{row_bytes, row_length, value_width}
 use Rattle.meaning.proofs.ListLaws.{all_drop}
 use Rattle.format.proofs.NumberLaws.{front_bytes}
+use Rattle.format.proofs.RowBytesLaws.{row-length}
+use Rattle.console.specs.Rows.{StartsWithRow}
 
 -- bytes, one by one, are bytes
 pub all-bytes : (s : List ℕ) → ((i : ℕ) → get_or s i 0 < 256) → All (λ b. b < 256) s
@@ -50,6 +53,34 @@ numbers_back s long h =
 -- a stage that a byte names has it for its number
 pub stage_named : (form : ℕ) (stage : Stage) → stage_of form ≡ Is stage → stage_number stage ≡ form
 stage_named form stage e = grind (arith, common_steps)
+
+-- a stage is named by its number
+stage_back : (stage : Stage) → stage_of (stage_number stage) ≡ Is stage
+stage_back Created = refl
+stage_back Detached = refl
+stage_back Expired = refl
+stage_back Discharged = refl
+stage_back Violated = refl
+
+-- bytes whose first names no stage are no row's
+pub none_named : (s : List ℕ) → stage_of (get_or s 0 0) ≡ NotAStage → (row : Row) → row_bytes value_width row ≡ s → ⊥
+unfolding row_bytes
+none_named s none row e =
+    let same : Is row.stage ≡ NotAStage = sym (stage_back row.stage) ∙ ap (λ (t : List ℕ). stage_of (get_or t 0 0)) e ∙ none in cc
+
+-- fewer bytes than a row has start with none
+pub none_short : (s : List ℕ) → length s < 18 → StartsWithRow s → ⊥
+unfolding row_length
+none_short s short starts =
+    let long : length (row_bytes value_width starts.row) ≡ 18 = row-length value_width starts.row in
+    let sum : length (row_bytes value_width starts.row) + length starts.behind ≡ length s = sym (length-append (row_bytes value_width starts.row) starts.behind) ∙ ap length starts.whole in
+    omega (arith, short, long, sum)
+
+-- bytes whose first eighteen are no row start with none
+pub none_front : (s : List ℕ) → ((row : Row) → row_bytes value_width row ≡ take 18 s → ⊥) → StartsWithRow s → ⊥
+unfolding row_length
+none_front s none starts =
+    none starts.row (sym (take_at (row_bytes value_width starts.row) starts.behind 18 (row-length value_width starts.row)) ∙ ap (take 18) starts.whole)
 
 -- the row, written
 pub row_back : (stage : Stage) (s : List ℕ) → length s ≡ 18 → All (λ b. b < 256) s → stage_number stage ≡ get_or s 0 0

@@ -1,12 +1,13 @@
 // What the programs share: the reading of their input, and the rows of a report as values.
 #![tactic(auto)]
 
-ghost use Rattle.std.specs.Prelude.{◌≡◌, ◌++◌, IfOk, IfSome, length, take, vec_len};
+ghost use Rattle.std.specs.Prelude.{◌≡◌, ◌≢◌, ℕ, ◌⊎◌, List, ◌++◌, IfOk, IfSome, IsFalse, IsNone, length, take, vec_len};
 ghost use Rattle.std.specs.Io.{StartsWith};
 ghost use Rattle.std.specs.Io.KnownBytes.{Consumes};
+ghost use Rattle.meaning.specs.declared.Row.{Row};
 ghost use Rattle.format.specs.Bytes.{bytes_of};
 ghost use Rattle.format.specs.Records.{row_bytes, value_width};
-ghost use Rattle.console.specs.Rows.{rows_bytes};
+ghost use Rattle.console.specs.Rows.{StartsWithRow, rows_bytes};
 
 use grammar::u32_at;
 use meaning::{Row, Stage};
@@ -83,14 +84,17 @@ pub fn read_number<R: Read>(input: &mut R) -> Result<u32, Failure>
 }
 
 // Whether nothing is left of the input, or it fails.
-pub fn at_end<R: Read>(input: &mut R) -> bool {
+pub fn at_end<R: Read>(input: &mut R) -> bool
+    ensures { IsFalse result → (more : List ℕ) × (length more ≡ 1) × Consumes (R.remaining input.old) (R.remaining input.new) more }
+{
     input.read_exact(&mut [0]).is_err()
 }
 
 // The row that eighteen bytes stand for, if the first names a stage.
 fn row_of(bytes: &[u8]) -> Option<Row>
     requires { length bytes.now ≡ 18 }
-    ensures { IfSome result (λ row. row_bytes value_width row ≡ bytes.now) }
+    ensures found { IfSome result (λ row. row_bytes value_width row ≡ bytes.now) }
+    ensures none { IsNone result → (row : Row) → row_bytes value_width row ≢ bytes.now }
 {
     let stage = Stage::try_from(bytes[0]).ok()?;
     Some(Row {
@@ -105,7 +109,8 @@ fn row_of(bytes: &[u8]) -> Option<Row>
 
 // The row at the front of bytes, if one stands there, and the bytes behind it.
 pub fn split_row(bytes: &[u8]) -> Option<(Row, &[u8])>
-    ensures { IfSome result (λ found. row_bytes value_width found.0 ++ found.1.now ≡ bytes.now) }
+    ensures found { IfSome result (λ found. row_bytes value_width found.0 ++ found.1.now ≡ bytes.now) }
+    ensures none { IsNone result → ¬ (StartsWithRow bytes.now) }
 {
     if bytes.len() < ROW_LENGTH {
         return None;
@@ -116,7 +121,8 @@ pub fn split_row(bytes: &[u8]) -> Option<(Row, &[u8])>
 
 // The rows at the front of a page, as many as are asked for and there, and the bytes behind them.
 pub fn split_rows(alloc: Global, page: &[u8], count: usize) -> Result<(Vec<Row>, &[u8]), AllocError>
-    ensures { IfOk result (λ found. rows_bytes found.0.items ++ found.1.now ≡ page.now) }
+    ensures rows { IfOk result (λ found. rows_bytes found.0.items ++ found.1.now ≡ page.now) }
+    ensures count { IfOk result (λ found. (vec_len found.0 ≡ count) ⊎ ¬ (StartsWithRow found.1.now)) }
 {
     let mut rows = Vec::new(alloc);
     let mut rest = page;

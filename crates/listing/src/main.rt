@@ -3,7 +3,6 @@
 
 ghost use Rattle.std.specs.Prelude.{◌≤◌, IfOk};
 
-use calls::Reported;
 use console::{Failure, at_end, read_bytes, read_number, split_rows};
 use event_log::LOG_LIMIT;
 use report::report;
@@ -52,8 +51,8 @@ fn list(rt: &impl Print, alloc: Global, request: &Request) -> io::Result<()> {
     let mut page = vec![in alloc; 0; PAGE_LENGTH]?;
     let log = &request.log;
     match report(&request.terms, log, log.len(), request.moment, &mut page) {
-        Reported::Refused(refusal) => println!(rt; "{refusal}"),
-        Reported::Count(count) => {
+        Err(refusal) => println!(rt; "{refusal}"),
+        Ok(count) => {
             let (rows, _) = split_rows(alloc, &page, count)?;
             for row in &rows {
                 println!(rt; "{row}")?;
