@@ -6,50 +6,33 @@ ghost use Rattle.calls.specs.Answers.{refusal_number};
 
 use std::fmt;
 
-// Why a call is refused, in the order of the table.
+// Why a call is refused, with the table's number, which is its order.
 #[derive(Clone, Copy, Debug, PartialEq, Eq)]
 pub enum Refusal {
-    TermsTooLong,
-    BrokenGrammar,
-    FieldOutOfRange,
-    CitationTooHigh,
-    NothingShared,
-    UsedTooLong,
-    BrokenRecord,
-    StampFalls,
-    KeyRepeats,
-    PageTooShort,
-    NotOneRecord,
-    StampTooLow,
-    KeyPresent,
-    NoRoom,
-    NoSchema,
-    NoSubject,
+    TermsTooLong = 1,
+    BrokenGrammar = 2,
+    FieldOutOfRange = 3,
+    CitationTooHigh = 4,
+    NothingShared = 5,
+    UsedTooLong = 6,
+    BrokenRecord = 7,
+    StampFalls = 8,
+    KeyRepeats = 9,
+    PageTooShort = 10,
+    NotOneRecord = 11,
+    StampTooLow = 12,
+    KeyPresent = 13,
+    NoRoom = 14,
+    NoSchema = 15,
+    NoSubject = 16,
 }
 
-impl Refusal {
-    // The table's number for the refusal.
-    pub fn number(self) -> u8
-        ensures { result ≡ refusal_number self }
-    {
-        match self {
-            Refusal::TermsTooLong => 1,
-            Refusal::BrokenGrammar => 2,
-            Refusal::FieldOutOfRange => 3,
-            Refusal::CitationTooHigh => 4,
-            Refusal::NothingShared => 5,
-            Refusal::UsedTooLong => 6,
-            Refusal::BrokenRecord => 7,
-            Refusal::StampFalls => 8,
-            Refusal::KeyRepeats => 9,
-            Refusal::PageTooShort => 10,
-            Refusal::NotOneRecord => 11,
-            Refusal::StampTooLow => 12,
-            Refusal::KeyPresent => 13,
-            Refusal::NoRoom => 14,
-            Refusal::NoSchema => 15,
-            Refusal::NoSubject => 16,
-        }
+// The table's number for a refusal.
+impl From<Refusal> for u8 {
+    ghost from_gives = { λ refusal number. number ≡ refusal_number refusal };
+
+    fn from(refusal: Refusal) -> u8 {
+        refusal as u8
     }
 }
 
@@ -57,6 +40,6 @@ impl fmt::Display for Refusal {
     ghost output = { λ refusal. Some (codes "refused " ++ decimal (refusal_number refusal)) };
 
     fn fmt<W: fmt::Write>(&self, f: &mut fmt::Formatter<W>) -> fmt::Result {
-        write!(f, "refused {}", self.number())
+        write!(f, "refused {}", u8::from(*self))
     }
 }

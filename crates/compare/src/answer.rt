@@ -17,7 +17,7 @@ impl<T> Answer<T> {
         match answer {
             Ok(value) => Answer { refusal: 0, value },
             Err(refusal) => Answer {
-                refusal: u32::from(refusal.number()),
+                refusal: u32::from(u8::from(refusal)),
                 value: nothing,
             },
         }
