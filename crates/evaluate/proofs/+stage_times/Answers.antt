@@ -8,7 +8,7 @@ use Rattle.times.specs.declared.Needed.{Needed}
 use Rattle.times.specs.NeededTimes.{needed_of, detach_needs, consequent_needs}
 use Rattle.index.specs.Chains.{Ready, index_limit}
 use Rattle.evaluate.specs.Seen.{Posed}
-use Rattle.evaluate.proofs.Expressions.{occurs-times, fails-times, expression-as, leaf-times, count-as, and-times, or-times, except-times, always-times, nothing-times, stage-here}
+use Rattle.evaluate.proofs.Expressions.{occurs-times, fails-times, leaf-times, and-times, or-times, except-times, always-times, nothing-times, stage-here}
 use Rattle.table.proofs.TableLaws.{schemas-few}
 use Rattle.evaluate.proofs.Leaves.{count-no-lower, count-no-upper, count-more, count-few, first-here, plain_known, open-known, event-never, plus-known, minus-known, fails-no-upper, fails-unreached, fails-empty, fails-no-lower, fails_met, fails-missed, occurs-no-lower, occurs-no-upper, occurs}
 use Rattle.meaning.specs.Meaning.{and_of, or_of, except_of}
@@ -18,7 +18,7 @@ use Rattle.fields.specs.Decoded.{ExpressionAt}
 use mathlib.Core.Logic.{inl, inr}
 use lib.ListN.{length, drop}
 use Rattle.format.specs.Fields.{terms_of}
-use Rattle.table.specs.Table.{table_length, starts_from}
+use Rattle.table.specs.Table.{starts_from}
 use Rattle.records.specs.Holds.{Stands}
 use Rattle.index.proofs.Walks.{Next, walk_start, walk_end, walk-next, marked-kind}
 use Rattle.index.proofs.Found.{found-stand, all-next}
@@ -46,8 +46,8 @@ clause_times-asks t c p e h =
     let same : weight p c.args.clause.rank ≡ t = rw (← e) c.decreases in
     (omega (arith, same), (c.requires.ready, (c.requires.posed, omega arith)))
 
-pub clause_times-start_in-at-requires : goal.clause_times-start_in-at-requires
-clause_times-start_in-at-requires t c = record { table_len = c.requires.ready.read.0.long; rank_lt_ranks = omega (arith, schemas-few c.args.terms.now refl, c.requires.posed.ranked) }
+pub clause_times-start_in-at-requires-clause-rank_lt_ranks : goal.clause_times-start_in-at-requires-clause-rank_lt_ranks
+clause_times-start_in-at-requires-clause-rank_lt_ranks t c = omega (arith, schemas-few c.args.terms.now refl, c.requires.posed.ranked)
 
 pub clause_times-occurrence-requires : goal.clause_times-occurrence-requires
 unfolding weight
@@ -96,9 +96,6 @@ count_times-returns-in_default t c = search (count-no-lower, rules)
 
 pub count_times-returns-in_default-known_bound : goal.count_times-returns-in_default-known_bound
 count_times-returns-in_default-known_bound t c = search (count-no-upper, rules)
-
-pub count_times-count_within-number-requires : goal.count_times-count_within-number-requires
-count_times-count_within-number-requires t c = record { ready = c.requires.ready; stands = c.requires.posed.stands }
 
 pub count_times-returns-then-count-number : goal.count_times-returns-then-count-number
 count_times-returns-then-count-number t c =
@@ -192,30 +189,15 @@ first_within-here : (t : ℕ) (c : first_within-In-loop-at t) → let a = c.args
     Next a.log.now a.table.now c.mark_of-mark.result c.loop-at.at c.loop-at.invariant.0
 first_within-here t c = walk-next _ _ _ c.loop-at.invariant.1 c.loop-at-test.true
 
--- the word has a slot
-first_within-slot : (t : ℕ) (c : first_within-In-loop-at t) → let a = c.args in
-    (c.loop-at.at < index_limit) × (length a.table.now ≡ table_length)
-first_within-slot t c =
-    let i = c.requires.ready.indexed in
-    (omega (arith, (first_within-here t c).inside, i.short), i.long)
-
-pub first_within-kind_of-kind-requires : goal.first_within-kind_of-kind-requires
-first_within-kind_of-kind-requires t c = c.requires.ready.read
-
-pub first_within-kind_count-requires : goal.first_within-kind_count-requires
-first_within-kind_count-requires t c = c.requires.ready.read.0.long
+-- the word is one of the index
+first_within-low : (t : ℕ) (c : first_within-In-loop-at t) → c.loop-at.at < index_limit
+first_within-low t c = omega (arith, (first_within-here t c).inside, c.requires.ready.indexed.short)
 
 pub first_within-returns-then-kind_count-kind : goal.first_within-returns-then-kind_count-kind
 first_within-returns-then-kind_count-kind t c =
     let a = c.args in
     scan-none a.terms.now a.log.now a.clause.rank a.clause.subject a.window.lower a.window.upper a.event c.kind_of-kind.ensures
     (omega (arith, c.requires.ready.read.0.count, c.kind_count.ensures.0))
-
-pub first_within-mark_of-mark-requires : goal.first_within-mark_of-mark-requires
-first_within-mark_of-mark-requires t c = record { kinds = c.requires.ready.read.0; stands = c.requires.posed.stands; kind_in_bounds = omega (arith, c.requires.ready.read.0.count, c.kind_count.ensures.0) }
-
-pub first_within-first_word-at-requires : goal.first_within-first_word-at-requires
-first_within-first_word-at-requires t c = record { word_lt_number_limit = c.mark_of-mark.ensures.word_low; table_len = c.requires.ready.indexed.long }
 
 pub first_within-loop-at-init : goal.first_within-loop-at-init
 first_within-loop-at-init t c = (
@@ -225,13 +207,14 @@ first_within-loop-at-init t c = (
   scan-start _ _ _ _ _ _ _ c.kind_of-kind.ensures c.mark_of-mark.ensures,
 )
 
-pub first_within-is_marked-requires : goal.first_within-is_marked-requires
-first_within-is_marked-requires t c =
-    let n = first_within-here t c in
-    let i = c.requires.ready.indexed in record { owner_before = n.owner; slot_width_in_bounds = n.inside; log_len_bound = i.short; table_len = i.long; word_lt_number_limit = c.mark_of-mark.ensures.word_low }
+pub first_within-is_marked-requires-clause-owner_before : goal.first_within-is_marked-requires-clause-owner_before
+first_within-is_marked-requires-clause-owner_before t c = (first_within-here t c).owner
 
-pub first_within-owner_of-requires : goal.first_within-owner_of-requires
-first_within-owner_of-requires t c = record { at_lt_index_limit = (first_within-slot t (goal.at.first_within-owner_of-requires t c).In-loop-at).0; table_len = (first_within-slot t (goal.at.first_within-owner_of-requires t c).In-loop-at).1 }
+pub first_within-is_marked-requires-clause-slot_width_in_bounds : goal.first_within-is_marked-requires-clause-slot_width_in_bounds
+first_within-is_marked-requires-clause-slot_width_in_bounds t c = (first_within-here t c).inside
+
+pub first_within-owner_of-requires-clause-at_lt_index_limit : goal.first_within-owner_of-requires-clause-at_lt_index_limit
+first_within-owner_of-requires-clause-at_lt_index_limit t c = first_within-low t (goal.at.first_within-owner_of-requires-clause-at_lt_index_limit t c).In-loop-at
 
 pub first_within-happening-time-requires : goal.first_within-happening-time-requires
 first_within-happening-time-requires t c =
@@ -240,8 +223,8 @@ first_within-happening-time-requires t c =
     let stands = (all-next (Stands (terms_of c.args.terms.now) c.args.log.now) _ _ _ (first_within-here t (goal.at.first_within-happening-time-requires t c).In-loop-at).left_is c.loop-at.invariant.2).0 is in
     (omega arith, (c.requires.ready, (c.requires.posed, rw c.owner_of.ensures (stands, kind))))
 
-pub first_within-next_of-at-requires : goal.first_within-next_of-at-requires
-first_within-next_of-at-requires t c = record { at_lt_index_limit = (first_within-slot t (goal.at.first_within-next_of-at-requires t c).In-loop-at).0; table_len = (first_within-slot t (goal.at.first_within-next_of-at-requires t c).In-loop-at).1 }
+pub first_within-next_of-at-requires-clause-at_lt_index_limit : goal.first_within-next_of-at-requires-clause-at_lt_index_limit
+first_within-next_of-at-requires-clause-at_lt_index_limit t c = first_within-low t (goal.at.first_within-next_of-at-requires-clause-at_lt_index_limit t c).In-loop-at
 
 pub first_within-loop-at-smaller : goal.first_within-loop-at-smaller
 first_within-loop-at-smaller t c = omega (arith, c.next_of-at.ensures, (first_within-here t (goal.at.first_within-loop-at-smaller t c).In-loop-at).falls)
@@ -263,9 +246,6 @@ pub first_within-returns : goal.first_within-returns
 first_within-returns t c = let i = c.loop-at.invariant in scan-end _ _ _ _ _ _ _ (walk_end _ _ _ i.1 c.loop-at-test.false) i.3
 
 -- happening: when an event happens by a record
-
-pub happening-correlates-requires : goal.happening-correlates-requires
-happening-correlates-requires t c = record { kinds = c.requires.ready.read.0; stands = c.requires.posed.stands; other_stands = c.requires.stands }
 
 pub happening-returns-then-not-correlates : goal.happening-returns-then-not-correlates
 happening-returns-then-not-correlates t c =
@@ -327,9 +307,6 @@ leaf_failure-returns-in_default-first_within t c =
 
 pub leaf_failure-returns-in_default-known_bound : goal.leaf_failure-returns-in_default-known_bound
 leaf_failure-returns-in_default-known_bound t c = search (fails-no-lower, rules)
-
-pub leaf_failure-first_within-requires-2 : goal.leaf_failure-first_within-requires-2
-leaf_failure-first_within-requires-2 t c = (omega arith, (c.requires.ready, c.requires.posed))
 
 -- something is in the window
 pub leaf_failure-returns-in-At-first_within-2 : goal.leaf_failure-returns-in-At-first_within-2
