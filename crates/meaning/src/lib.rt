@@ -22,14 +22,20 @@ impl Time {
     pub fn later_of(self, other: Time) -> Time
         ensures { result ≡ later_of self other }
     {
-        self.max(other)
+        match (self, other) {
+            (Time::At(a), Time::At(b)) => Time::At(a.max(b)),
+            _ => Time::Never,
+        }
     }
 
     // When one of the two has happened.
     pub fn earlier_of(self, other: Time) -> Time
         ensures { result ≡ earlier_of self other }
     {
-        self.min(other)
+        match (self, other) {
+            (Time::At(a), Time::At(b)) => Time::At(a.min(b)),
+            (Time::Never, time) | (time, Time::Never) => time,
+        }
     }
 }
 
