@@ -17,7 +17,7 @@ use lib.Seq.{length-take-le, get_or-take}
 use Rattle.meaning.specs.Lists.{numbers_from, is_empty, any_of}
 use Rattle.meaning.specs.Terms.{Expr, schema_at}
 use Rattle.format.specs.Grammar.{schemas_limit, file_of, breaks_grammar}
-use Rattle.format.specs.Fields.{expr_from, schema_from, terms_from, head_wrong, schema_wrong, kinds_wrong, field_wrong, any_event, cites_too_high, citation_wrong, unshared_in, unshared_event, terms_of}
+use Rattle.format.specs.Fields.{expr_from, schema_from, terms_from, head_wrong, kind_wrong, schema_wrong, kinds_wrong, field_wrong, any_event, cites_too_high, citation_wrong, unshared_in, unshared_event, terms_of}
 use Rattle.format.proofs.GrammarLaws.{file-read}
 use Rattle.format.proofs.PlaceLaws.{left_over}
 use Rattle.format.proofs.ExprLaws.{any-event}
@@ -26,8 +26,7 @@ use Rattle.grammar.specs.Places.{no_items, Placed, LaidOut}
 use Rattle.terms.specs.declared.EventQuestion.{EventQuestion}
 use Rattle.terms.specs.declared.EventQuestion.TheVariants.{CitesFrom, SharesNone}
 use Rattle.terms.specs.declared.Question.TheVariants.{OutOfRange, SomeEvent}
-use Rattle.terms.specs.declared.Fault.TheVariants.{Field, Citation, Unshared}
-use Rattle.terms.specs.Questions.{asked, asked_of_leaf, clause_has, clauses_have, schema_has}
+use Rattle.terms.specs.Questions.{asked, asked_of_leaf, clause_has, clauses_have}
 use Rattle.terms.proofs.Steps.{schema-here}
 
 -- a test of a list's elements, by their numbers from k on
@@ -42,9 +41,22 @@ any-numbers : {A : Type 0} (p : A → Bool) (d : A) (l : List A) → any_of p l 
 any-numbers p d l = sym (any-from p d (λ n. p (get_or l n d)) 0 l (λ i. ap (λ (n : ℕ). p (get_or l n d)) (zero-add i)))
 
 module _ (s : List ℕ) where
+  -- refusal 3 at the item 01 with a number
+  abbrev pub kind-fault : ℕ → Bool
+  kind-fault i = kind_wrong i (get_or (file_of s).kinds i [])
+
+  -- refusal 3 at the schema with a number
+  abbrev pub field-fault : ℕ → Bool
+  field-fault n = schema_wrong (terms_of s) (get_or (file_of s).schemas n no_items)
+
+  -- refusal 5 at the schema with a number
+  abbrev pub unshared-fault : ℕ → Bool
+  unshared-fault n = unshared_in (terms_of s) (schema_at (terms_of s) n)
+
   -- refusal 3
-  pub field-faults : field_wrong (file_of s) ≡ (kinds_wrong (file_of s) || any_of (schema_has s Field) (numbers_from 0 (length (file_of s).schemas)))
-  unfolding field_wrong schema_has terms_of
+  pub field-faults : field_wrong (file_of s)
+      ≡ (any_of kind-fault (numbers_from 0 (length (file_of s).kinds)) || any_of field-fault (numbers_from 0 (length (file_of s).schemas)))
+  unfolding field_wrong kinds_wrong terms_of
   field-faults = rw (any-numbers (schema_wrong (terms_from (file_of s))) no_items (file_of s).schemas)
 
   -- as many schemas as are read
@@ -53,13 +65,13 @@ module _ (s : List ℕ) where
   schemas_count = length-map (file_of s).schemas schema_from
 
   -- refusal 4
-  pub citation-faults : citation_wrong (terms_of s) ≡ any_of (schema_has s Citation) (numbers_from 0 (length (file_of s).schemas))
-  unfolding citation_wrong schema_has
+  pub citation-faults : citation_wrong (terms_of s) ≡ any_of (cites_too_high (terms_of s)) (numbers_from 0 (length (file_of s).schemas))
+  unfolding citation_wrong
   citation-faults = rw schemas_count
 
   -- refusal 5
-  pub unshared-faults : unshared_event (terms_of s) ≡ any_of (schema_has s Unshared) (numbers_from 0 (length (file_of s).schemas))
-  unfolding unshared_event schema_has schema_at
+  pub unshared-faults : unshared_event (terms_of s) ≡ any_of unshared-fault (numbers_from 0 (length (file_of s).schemas))
+  unfolding unshared_event schema_at
   unshared-faults = rw (← schemas_count) (any-numbers _ _ (terms_of s).schemas)
 
   -- a question about events, of a clause's items
@@ -69,20 +81,20 @@ module _ (s : List ℕ) where
 
   module _ (n : ℕ) where
     -- refusal 3 at a schema: at its head, or at a leaf
-    pub field-here : schema_has s Field n ≡ (head_wrong (terms_of s) (get_or (file_of s).schemas n no_items).head || clauses_have s OutOfRange OutOfRange OutOfRange n)
-    unfolding schema_has schema_wrong clauses_have clause_has asked_of_leaf
+    pub field-here : field-fault n ≡ (head_wrong (terms_of s) (get_or (file_of s).schemas n no_items).head || clauses_have s OutOfRange OutOfRange OutOfRange n)
+    unfolding schema_wrong clauses_have clause_has asked_of_leaf
     field-here = simp or_assoc
 
     module _ (h : n < length (file_of s).schemas) where
       -- refusal 4
-      pub citation-here : schema_has s Citation n
+      pub citation-here : cites_too_high (terms_of s) n
           ≡ clauses_have s (SomeEvent (CitesFrom (3 * n))) (SomeEvent (CitesFrom (3 * n + 1))) (SomeEvent (CitesFrom (3 * n + 2))) n
-      unfolding schema_has cites_too_high schema_from asked clauses_have
+      unfolding cites_too_high schema_from asked clauses_have
       citation-here = rw (schema-here s n h) (simp clause-events)
 
       -- refusal 5
-      pub unshared-here : schema_has s Unshared n ≡ (let q = SomeEvent (SharesNone (schema_at (terms_of s) n).subject) in clauses_have s q q q n)
-      unfolding schema_has unshared_in schema_from asked clauses_have
+      pub unshared-here : unshared-fault n ≡ (let q = SomeEvent (SharesNone (schema_at (terms_of s) n).subject) in clauses_have s q q q n)
+      unfolding unshared_in schema_from asked clauses_have
       unshared-here = rw (schema-here s n h) (simp clause-events)
 
 -- nothing stands in a list where it has no elements

@@ -3,17 +3,15 @@ use Rattle.std.specs.Prelude.{ℕ, ◌+◌, ◌≤◌, ◌≡◌, Bool, true, fa
 use Rattle.std.proofs.Math.Option.{some}
 use Rattle.meaning.specs.declared.Event.{Event}
 use Rattle.meaning.specs.Lists.{any_of}
-use Rattle.meaning.specs.Terms.{Terms, Expr, schema_at, leaves, leaf_events}
+use Rattle.meaning.specs.Terms.{Terms, Expr, leaves, leaf_events}
 use Rattle.format.specs.Grammar.{size, read_expr, file_of, read_clause}
-use Rattle.format.specs.Fields.{leaf_from, leaf_wrong, schema_wrong, cites_from, shares_none, cites_too_high, unshared_in, terms_of}
+use Rattle.format.specs.Fields.{leaf_from, leaf_wrong, cites_from, shares_none, terms_of}
 use Rattle.grammar.specs.declared.Spot.{Spot}
 use Rattle.grammar.specs.Places.{no_items}
 use Rattle.terms.specs.declared.EventQuestion.{EventQuestion}
 use Rattle.terms.specs.declared.EventQuestion.TheVariants.{CitesFrom, SharesNone}
 use Rattle.terms.specs.declared.Question.{Question}
 use Rattle.terms.specs.declared.Question.TheVariants.{OutOfRange, SomeEvent}
-use Rattle.terms.specs.declared.Fault.{Fault}
-use Rattle.terms.specs.declared.Fault.TheVariants.{Field, Citation, Unshared}
 
 -- a question about an event
 unfoldable pub asked : Terms → EventQuestion → Event → Bool
@@ -47,9 +45,3 @@ clauses_have s c r u n =
 -- the clause that is read at a place
 abbrev pub ClauseAt : List ℕ → ℕ → Expr (List ℕ) → Type 0
 ClauseAt s at x = (t : List ℕ) × (read_clause (drop at s) ≡ some (x, t))
-
--- the fault of a refusal at the schema with a number (table, 3 to 5)
-unfoldable pub schema_has : List ℕ → Fault → ℕ → Bool
-schema_has s Field n = schema_wrong (terms_of s) (get_or (file_of s).schemas n no_items)
-schema_has s Citation n = cites_too_high (terms_of s) n
-schema_has s Unshared n = unshared_in (terms_of s) (schema_at (terms_of s) n)

@@ -1,17 +1,17 @@
 // Call 1, check terms: the grammar, then fields, citations and shared attributes, each over the whole file.
 #![tactic(auto)]
 
-ghost use Rattle.std.specs.Prelude.{◌≡◌, List, ◌∷◌, ◌++◌, ℕ, ◌+◌, ◌-◌, ◌*◌, ◌<◌, ◌≤◌, length, get_or, take, drop};
+ghost use Rattle.std.specs.Prelude.{◌≡◌, Bool, List, ◌∷◌, ◌++◌, ℕ, ◌+◌, ◌-◌, ◌*◌, ◌<◌, ◌≤◌, length, get_or, take, drop};
 ghost use Rattle.meaning.specs.Lists.{numbers_from, any_of};
 ghost use Rattle.meaning.specs.Terms.{Expr, schema_at, kind_of, rank, bound_events, leaf_events};
 ghost use Rattle.format.specs.Grammar.{file_of, breaks_grammar};
-ghost use Rattle.format.specs.Fields.{kinds_wrong, field_wrong, cites_from, shares_none, terms_of};
+ghost use Rattle.format.specs.Fields.{schema_wrong, cites_too_high, unshared_in, field_wrong, cites_from, shares_none, terms_of};
 ghost use Rattle.calls.specs.Answers.{checked_answer};
 ghost use Rattle.calls.specs.Calls.{check_terms};
 ghost use Rattle.grammar.specs.Found.{StandsExpr};
-ghost use Rattle.grammar.specs.Places.{Placed, LaidOut};
+ghost use Rattle.grammar.specs.Places.{no_items, Placed, LaidOut};
 ghost use Rattle.fields.specs.Decoded.{LeafAt, leaf_item};
-ghost use Rattle.terms.specs.Questions.{asked, asked_of_leaf, clause_has, Walks, clauses_have, ClauseAt, schema_has};
+ghost use Rattle.terms.specs.Questions.{asked, asked_of_leaf, clause_has, Walks, clauses_have, ClauseAt};
 
 use calls::Refusal;
 use fields::mask_of;
@@ -34,14 +34,6 @@ pub enum EventQuestion {
 pub enum Question {
     OutOfRange,
     SomeEvent(EventQuestion),
-}
-
-// The fault of refusals 3, 4 and 5 at a schema.
-#[derive(Clone, Copy)]
-pub enum Fault {
-    Field,
-    Citation,
-    Unshared,
 }
 
 // The rank of a stage: that of the last clause on which it depends.
@@ -293,7 +285,7 @@ fn clauses_have(
 // Refusal 3 at the schema with a number.
 fn schema_wrong(terms: &[u8], kinds: usize, starts: &[usize], n: usize) -> bool
     requires { Placed terms.now kinds starts.now × (3 * n < length starts.now) }
-    ensures { result ≡ schema_has terms.now Fault.Field n }
+    ensures { result ≡ schema_wrong (terms_of terms.now) (get_or (file_of terms.now).schemas n no_items) }
 {
     if fields::head_wrong(terms, kinds, head_at(starts, n)) {
         return true;
@@ -305,7 +297,7 @@ fn schema_wrong(terms: &[u8], kinds: usize, starts: &[usize], n: usize) -> bool
 // Refusal 4 at the schema with a number: its clauses rank 3n, 3n + 1 and 3n + 2.
 fn schema_cites(terms: &[u8], kinds: usize, starts: &[usize], n: usize) -> bool
     requires { Placed terms.now kinds starts.now × (3 * n < length starts.now) }
-    ensures { result ≡ schema_has terms.now Fault.Citation n }
+    ensures { result ≡ cites_too_high (terms_of terms.now) n }
 {
     let create = Question::SomeEvent(EventQuestion::CitesFrom(3 * n));
     let detach = Question::SomeEvent(EventQuestion::CitesFrom(3 * n + 1));
@@ -316,45 +308,20 @@ fn schema_cites(terms: &[u8], kinds: usize, starts: &[usize], n: usize) -> bool
 // Refusal 5 at the schema with a number.
 fn schema_unshared(terms: &[u8], kinds: usize, starts: &[usize], n: usize) -> bool
     requires { Placed terms.now kinds starts.now × (3 * n < length starts.now) }
-    ensures { result ≡ schema_has terms.now Fault.Unshared n }
+    ensures { result ≡ unshared_in (terms_of terms.now) (schema_at (terms_of terms.now) n) }
 {
     let subject = subject_of(terms, kinds, starts, n);
     let question = Question::SomeEvent(EventQuestion::SharesNone(subject));
     clauses_have(terms, kinds, starts, question, question, question, n)
 }
 
-// The fault of a refusal at the schema with a number.
-fn schema_has(terms: &[u8], kinds: usize, starts: &[usize], fault: Fault, n: usize) -> bool
-    requires { Placed terms.now kinds starts.now × (3 * n < length starts.now) }
-    ensures { result ≡ schema_has terms.now fault n }
+// Whether some number below a limit passes a test.
+fn some_below<F: Fn(usize) -> bool>(limit: usize, test: F) -> bool
+    requires { (n : ℕ) → n < limit → F.pre test n }
+    ensures { (p : ℕ → Bool) → ((n : ℕ) (b : Bool) → n < limit → F.post test n b → b ≡ p n) → result ≡ any_of p (numbers_from 0 limit) }
 {
-    match fault {
-        Fault::Field => schema_wrong(terms, kinds, starts, n),
-        Fault::Citation => schema_cites(terms, kinds, starts, n),
-        Fault::Unshared => schema_unshared(terms, kinds, starts, n),
-    }
-}
-
-// The fault of a refusal at some schema.
-fn some_schema_has(terms: &[u8], kinds: usize, starts: &[usize], fault: Fault) -> bool
-    requires { Placed terms.now kinds starts.now }
-    ensures { result ≡ any_of (schema_has terms.now fault) (numbers_from 0 (length (file_of terms.now).schemas)) }
-{
-    for n in 0..starts.len() / 3 {
-        if schema_has(terms, kinds, starts, fault, n) {
-            return true;
-        }
-    }
-    false
-}
-
-// Refusal 3 at some item 01.
-fn some_kind_wrong(terms: &[u8], kinds: usize) -> bool
-    requires { kinds ≡ length (file_of terms.now).kinds }
-    ensures { result ≡ kinds_wrong (file_of terms.now) }
-{
-    for i in 0..kinds {
-        if fields::kind_wrong(terms, i) {
+    for n in 0..limit {
+        if test(n) {
             return true;
         }
     }
@@ -366,10 +333,10 @@ fn field_wrong(terms: &[u8], kinds: usize, starts: &[usize]) -> bool
     requires { Placed terms.now kinds starts.now }
     ensures { result ≡ field_wrong (file_of terms.now) }
 {
-    if some_kind_wrong(terms, kinds) {
+    if some_below(kinds, |i| fields::kind_wrong(terms, i)) {
         return true;
     }
-    some_schema_has(terms, kinds, starts, Fault::Field)
+    some_below(starts.len() / 3, |n| schema_wrong(terms, kinds, starts, n))
 }
 
 // Refusal 2: no kind, no schema, or bytes left unread.
@@ -401,10 +368,10 @@ pub fn check_terms_under(terms: &[u8], layout: Layout) -> Result<(), Refusal>
     if field_wrong(terms, kinds, starts) {
         return Err(Refusal::FieldOutOfRange);
     }
-    if some_schema_has(terms, kinds, starts, Fault::Citation) {
+    if some_below(layout.schemas, |n| schema_cites(terms, kinds, starts, n)) {
         return Err(Refusal::CitationTooHigh);
     }
-    if some_schema_has(terms, kinds, starts, Fault::Unshared) {
+    if some_below(layout.schemas, |n| schema_unshared(terms, kinds, starts, n)) {
         return Err(Refusal::NothingShared);
     }
     Ok(())

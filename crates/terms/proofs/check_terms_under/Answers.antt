@@ -8,11 +8,11 @@ use lib.Seq.{length-take-le}
 use borrow.Author.Rules.{rules}
 use borrow.Author.Tests.{lt-ltb, le-ltb}
 use Rattle.format.specs.Grammar.{file_of, breaks_grammar}
-use Rattle.format.specs.Fields.{field_wrong, citation_wrong, terms_of}
+use Rattle.format.specs.Fields.{field_wrong, cites_too_high, citation_wrong, unshared_event, terms_of}
 use Rattle.calls.specs.Answers.{checked_answer}
 use Rattle.calls.specs.Calls.{refusal, terms_limit, terms_too_long, terms_checks, checked, check_terms}
-use Rattle.terms.proofs.Faults.{citation-faults, unshared-faults, layout-few, layout-placed}
-use Rattle.terms.proofs.check_terms_under.Goals.{Else-breaks_grammar, Else-field_wrong, Else-some_schema_has, Else-terms-gt-TERMS_LIMIT, Start}
+use Rattle.terms.proofs.Faults.{unshared-fault, citation-faults, unshared-faults, layout-few, layout-placed}
+use Rattle.terms.proofs.check_terms_under.Goals.{After-some_below, After-some_below-2, Else-breaks_grammar, Else-field_wrong, Else-terms-gt-TERMS_LIMIT, Start}
 use Rattle.terms.proofs.check_terms_under.Goals as goal
 
 -- the array that holds the starts
@@ -32,9 +32,17 @@ kept c = sym c.breaks_grammar.ensures ∙ c.if-breaks_grammar.false
 right : (c : Else-field_wrong) → field_wrong (file_of c.args.terms.now) ≡ false
 right c = sym c.field_wrong.ensures ∙ c.if-field_wrong.false
 
+-- what is asked for 4
+cites : (c : After-some_below) → c.some_below.result ≡ citation_wrong (terms_of c.args.terms.now)
+cites c = rw (citation-faults, ← c.requires.schemas_read) (c.some_below.ensures (cites_too_high (terms_of c.args.terms.now)) (λ n b h post. search rules))
+
+-- and for 5
+unshared : (c : After-some_below-2) → c.some_below-2.result ≡ unshared_event (terms_of c.args.terms.now)
+unshared c = rw (unshared-faults, ← c.requires.schemas_read) (c.some_below-2.ensures (unshared-fault c.args.terms.now) (λ n b h post. search rules))
+
 -- nor 4
-low : (c : Else-some_schema_has) → citation_wrong (terms_of c.args.terms.now) ≡ false
-low c = citation-faults _ ∙ sym c.some_schema_has.ensures ∙ c.if-some_schema_has.false
+low : (c : After-some_below) → c.some_below.result ≡ false → citation_wrong (terms_of c.args.terms.now) ≡ false
+low c e = sym (cites c) ∙ e
 
 pub overflow_mul-clauses : goal.overflow_mul-clauses
 overflow_mul-clauses c = omega (arith, layout-few _ _ c.requires)
@@ -61,23 +69,27 @@ pub returns-then-field_wrong : goal.returns-then-field_wrong
 unfolding checked_answer check_terms checked terms_checks refusal
 returns-then-field_wrong c = rw (short (goal.at.returns-then-field_wrong c).Else-terms-gt-TERMS_LIMIT, kept (goal.at.returns-then-field_wrong c).Else-breaks_grammar, sym c.field_wrong.ensures ∙ c.if-field_wrong.true)
 
-pub some_schema_has-requires : goal.some_schema_has-requires
-some_schema_has-requires c = layout-placed _ _ c.requires (long (goal.at.some_schema_has-requires c).Start)
+pub some_below-requires : goal.some_below-requires
+some_below-requires c n h =
+    let placed = layout-placed _ _ c.requires (long (goal.at.some_below-requires c).Start) in
+    search rules
 
-pub returns-then-some_schema_has : goal.returns-then-some_schema_has
+pub returns-then-some_below : goal.returns-then-some_below
 unfolding checked_answer check_terms checked terms_checks refusal
-returns-then-some_schema_has c =
-    rw (short (goal.at.returns-then-some_schema_has c).Else-terms-gt-TERMS_LIMIT, kept (goal.at.returns-then-some_schema_has c).Else-breaks_grammar, right (goal.at.returns-then-some_schema_has c).Else-field_wrong, citation-faults _ ∙ sym c.some_schema_has.ensures ∙ c.if-some_schema_has.true)
+returns-then-some_below c =
+    rw (short (goal.at.returns-then-some_below c).Else-terms-gt-TERMS_LIMIT, kept (goal.at.returns-then-some_below c).Else-breaks_grammar, right (goal.at.returns-then-some_below c).Else-field_wrong, sym (cites (goal.at.returns-then-some_below c).After-some_below) ∙ c.if-some_below.true)
 
-pub some_schema_has-requires-2 : goal.some_schema_has-requires-2
-some_schema_has-requires-2 c = layout-placed _ _ c.requires (long (goal.at.some_schema_has-requires-2 c).Start)
+pub some_below-requires-2 : goal.some_below-requires-2
+some_below-requires-2 c n h =
+    let placed = layout-placed _ _ c.requires (long (goal.at.some_below-requires-2 c).Start) in
+    search rules
 
-pub returns-then-some_schema_has-2 : goal.returns-then-some_schema_has-2
+pub returns-then-some_below-2 : goal.returns-then-some_below-2
 unfolding checked_answer check_terms checked terms_checks refusal
-returns-then-some_schema_has-2 c =
-    rw (short (goal.at.returns-then-some_schema_has-2 c).Else-terms-gt-TERMS_LIMIT, kept (goal.at.returns-then-some_schema_has-2 c).Else-breaks_grammar, right (goal.at.returns-then-some_schema_has-2 c).Else-field_wrong, low (goal.at.returns-then-some_schema_has-2 c).Else-some_schema_has, unshared-faults _ ∙ sym c.some_schema_has-2.ensures ∙ c.if-some_schema_has-2.true)
+returns-then-some_below-2 c =
+    rw (short (goal.at.returns-then-some_below-2 c).Else-terms-gt-TERMS_LIMIT, kept (goal.at.returns-then-some_below-2 c).Else-breaks_grammar, right (goal.at.returns-then-some_below-2 c).Else-field_wrong, low (goal.at.returns-then-some_below-2 c).After-some_below c.if-some_below.false, sym (unshared (goal.at.returns-then-some_below-2 c).After-some_below-2) ∙ c.if-some_below-2.true)
 
 pub returns : goal.returns
 unfolding checked_answer check_terms checked terms_checks refusal
 returns c =
-    rw (short (goal.at.returns c).Else-terms-gt-TERMS_LIMIT, kept (goal.at.returns c).Else-breaks_grammar, right (goal.at.returns c).Else-field_wrong, low (goal.at.returns c).Else-some_schema_has, unshared-faults _ ∙ sym c.some_schema_has-2.ensures ∙ c.if-some_schema_has-2.false)
+    rw (short (goal.at.returns c).Else-terms-gt-TERMS_LIMIT, kept (goal.at.returns c).Else-breaks_grammar, right (goal.at.returns c).Else-field_wrong, low (goal.at.returns c).After-some_below c.if-some_below.false, sym (unshared (goal.at.returns c).After-some_below-2) ∙ c.if-some_below-2.false)
