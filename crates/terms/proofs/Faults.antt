@@ -17,16 +17,14 @@ use lib.Seq.{length-take-le, get_or-take}
 use Rattle.meaning.specs.Lists.{numbers_from, is_empty, any_of}
 use Rattle.meaning.specs.Terms.{Expr, schema_at}
 use Rattle.format.specs.Grammar.{schemas_limit, file_of, breaks_grammar}
-use Rattle.format.specs.Fields.{expr_from, schema_from, terms_from, head_wrong, kind_wrong, schema_wrong, kinds_wrong, field_wrong, any_event, cites_too_high, citation_wrong, unshared_in, unshared_event, terms_of}
+use Rattle.format.specs.Fields.{expr_from, schema_from, terms_from, head_wrong, kind_wrong, schema_wrong, kinds_wrong, field_wrong, any_event, cites_from, shares_none, cites_too_high, citation_wrong, unshared_in, unshared_event, terms_of}
 use Rattle.format.proofs.GrammarLaws.{file-read}
 use Rattle.format.proofs.PlaceLaws.{left_over}
 use Rattle.format.proofs.ExprLaws.{any-event}
 use Rattle.grammar.specs.declared.Layout.{Layout}
 use Rattle.grammar.specs.Places.{no_items, Placed, LaidOut}
-use Rattle.terms.specs.declared.EventQuestion.{EventQuestion}
-use Rattle.terms.specs.declared.EventQuestion.TheVariants.{CitesFrom, SharesNone}
-use Rattle.terms.specs.declared.Question.TheVariants.{OutOfRange, SomeEvent}
-use Rattle.terms.specs.Questions.{asked, asked_of_leaf, clause_has, clauses_have}
+use Rattle.terms.specs.declared.Question.TheVariants.{OutOfRange, CitesFrom, SharesNone}
+use Rattle.terms.specs.Questions.{asked_of_leaf, clause_has, clauses_have}
 use Rattle.terms.proofs.Steps.{schema-here}
 
 -- a test of a list's elements, by their numbers from k on
@@ -74,10 +72,14 @@ module _ (s : List ℕ) where
   unfolding unshared_event schema_at
   unshared-faults = rw (← schemas_count) (any-numbers _ _ (terms_of s).schemas)
 
-  -- a question about events, of a clause's items
-  clause-events : (q : EventQuestion) (x : Expr (List ℕ)) → clause_has s (SomeEvent q) x ≡ any_event (asked (terms_of s) q) (expr_from x)
+  -- what is asked for 4 and 5, of a clause's items
+  clause-cites : (k : ℕ) (x : Expr (List ℕ)) → clause_has s (CitesFrom k) x ≡ any_event (cites_from k) (expr_from x)
   unfolding clause_has asked_of_leaf
-  clause-events q x = sym (any-event (asked (terms_of s) q) x)
+  clause-cites k x = sym (any-event (cites_from k) x)
+
+  clause-shares : (subject : ℕ) (x : Expr (List ℕ)) → clause_has s (SharesNone subject) x ≡ any_event (shares_none (terms_of s) subject) (expr_from x)
+  unfolding clause_has asked_of_leaf
+  clause-shares subject x = sym (any-event (shares_none (terms_of s) subject) x)
 
   module _ (n : ℕ) where
     -- refusal 3 at a schema: at its head, or at a leaf
@@ -88,14 +90,14 @@ module _ (s : List ℕ) where
     module _ (h : n < length (file_of s).schemas) where
       -- refusal 4
       pub citation-here : cites_too_high (terms_of s) n
-          ≡ clauses_have s (SomeEvent (CitesFrom (3 * n))) (SomeEvent (CitesFrom (3 * n + 1))) (SomeEvent (CitesFrom (3 * n + 2))) n
-      unfolding cites_too_high schema_from asked clauses_have
-      citation-here = rw (schema-here s n h) (simp clause-events)
+          ≡ clauses_have s (CitesFrom (3 * n)) (CitesFrom (3 * n + 1)) (CitesFrom (3 * n + 2)) n
+      unfolding cites_too_high schema_from clauses_have
+      citation-here = rw (schema-here s n h) (simp clause-cites)
 
       -- refusal 5
-      pub unshared-here : unshared-fault n ≡ (let q = SomeEvent (SharesNone (schema_at (terms_of s) n).subject) in clauses_have s q q q n)
-      unfolding unshared_in schema_from asked clauses_have
-      unshared-here = rw (schema-here s n h) (simp clause-events)
+      pub unshared-here : unshared-fault n ≡ (let q = SharesNone (schema_at (terms_of s) n).subject in clauses_have s q q q n)
+      unfolding unshared_in schema_from clauses_have
+      unshared-here = rw (schema-here s n h) (simp clause-shares)
 
 -- nothing stands in a list where it has no elements
 empty-count : {A : Type 0} (l : List A) → is_empty l ≡ eqb (length l) 0

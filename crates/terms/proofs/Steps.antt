@@ -2,7 +2,7 @@
 --     schema-here                   a schema that is there stands for its items
 --     subject-here, subject-past    its subject kind, and the one past the last schema
 --     type-here                     its norm type
---     window-asked                  a question about the events of a window, one after another
+--     window-asked                  a test of the events of a window, one after another
 --     Left, left-…                  a test of the numbers below n, one after another
 -- Assumes nothing.
 use Prim.Native.Nat.{ℕ, zero, suc, ◌+◌, ◌-◌, ◌*◌, ◌≤◌, ◌<◌}
@@ -16,15 +16,13 @@ use lib.ListN.{length, get_or, length-map, get_or-eq_default}
 use Rattle.meaning.specs.declared.Event.{Event}
 use Rattle.meaning.specs.declared.Bound.{Bound}
 use Rattle.meaning.specs.Lists.{numbers_from, any_of}
-use Rattle.meaning.specs.Terms.{Terms, Schema, schema_at, bound_events}
+use Rattle.meaning.specs.Terms.{Schema, schema_at, bound_events}
 use Rattle.format.specs.Bytes.{byte_at}
 use Rattle.format.specs.Grammar.{file_of}
 use Rattle.format.specs.Fields.{norm_type_of, schema_from, terms_from, terms_of}
 use Rattle.meaning.proofs.ListLaws.{any_here, any-behind, any_append}
 use Rattle.format.proofs.PlaceLaws.{byte-within}
 use Rattle.grammar.specs.Places.{no_items, Starts}
-use Rattle.terms.specs.declared.EventQuestion.{EventQuestion}
-use Rattle.terms.specs.Questions.{asked}
 
 -- an element that is there, in another form, whatever stands for those that are not
 get_or-map-in : {A B : Type 0} (f : A → B) (l : List A) (n : ℕ) (d : B) (e : A) → n < length l → get_or (map f l) n d ≡ f (get_or l n e)
@@ -60,11 +58,11 @@ pub subject-past : (s : List ℕ) (n : ℕ) → length (file_of s).schemas ≤ n
 unfolding schema_at terms_of terms_from
 subject-past s n h = ap (λ (x : Schema). x.subject) (get_or-eq_default (map schema_from (file_of s).schemas) _ (omega (arith, length-map (file_of s).schemas schema_from)))
 
--- a question about an event, its window's lower bound and its upper one
-pub window-asked : (terms : Terms) (q : EventQuestion) (e : Event) (l u : Bound) → any_of (asked terms q) (e ∷ (bound_events l ++ bound_events u))
-    ≡ (asked terms q e || (any_of (asked terms q) (bound_events l) || any_of (asked terms q) (bound_events u)))
+-- a test of an event, of its window's lower bound and of its upper one
+pub window-asked : (p : Event → Bool) (e : Event) (l u : Bound) → any_of p (e ∷ (bound_events l ++ bound_events u))
+    ≡ (p e || (any_of p (bound_events l) || any_of p (bound_events u)))
 unfolding any_of
-window-asked terms q e l u = ap (λ (b : Bool). asked terms q e || b) (any_append (asked terms q) (bound_events l) (bound_events u))
+window-asked p e l u = ap (λ (b : Bool). p e || b) (any_append p (bound_events l) (bound_events u))
 
 -- a test of the numbers below n, of which those from i on are left
 abbrev pub Left : (ℕ → Bool) → ℕ → ℕ → Type 0

@@ -1,27 +1,20 @@
 -- What is asked of each event, leaf, clause and schema of terms: refusals 3, 4 and 5 part by part. Assumes nothing: these are definitions.
 use Rattle.std.specs.Prelude.{ℕ, ◌+◌, ◌≤◌, ◌≡◌, Bool, true, false, ◌||◌, List, Option, Some, None, length, get_or, drop}
 use Rattle.std.proofs.Math.Option.{some}
-use Rattle.meaning.specs.declared.Event.{Event}
 use Rattle.meaning.specs.Lists.{any_of}
 use Rattle.meaning.specs.Terms.{Terms, Expr, leaves, leaf_events}
 use Rattle.format.specs.Grammar.{size, read_expr, file_of, read_clause}
 use Rattle.format.specs.Fields.{leaf_from, leaf_wrong, cites_from, shares_none, terms_of}
 use Rattle.grammar.specs.declared.Spot.{Spot}
 use Rattle.grammar.specs.Places.{no_items}
-use Rattle.terms.specs.declared.EventQuestion.{EventQuestion}
-use Rattle.terms.specs.declared.EventQuestion.TheVariants.{CitesFrom, SharesNone}
 use Rattle.terms.specs.declared.Question.{Question}
-use Rattle.terms.specs.declared.Question.TheVariants.{OutOfRange, SomeEvent}
-
--- a question about an event
-unfoldable pub asked : Terms → EventQuestion → Event → Bool
-asked terms (CitesFrom k) e = cites_from k e
-asked terms (SharesNone subject) e = shares_none terms subject e
+use Rattle.terms.specs.declared.Question.TheVariants.{OutOfRange, CitesFrom, SharesNone}
 
 -- a question about a leaf, by its item
 unfoldable pub asked_of_leaf : Terms → Question → List ℕ → Bool
 asked_of_leaf terms OutOfRange item = leaf_wrong terms item
-asked_of_leaf terms (SomeEvent q) item = any_of (asked terms q) (leaf_events (leaf_from item))
+asked_of_leaf terms (CitesFrom k) item = any_of (cites_from k) (leaf_events (leaf_from item))
+asked_of_leaf terms (SharesNone subject) item = any_of (shares_none terms subject) (leaf_events (leaf_from item))
 
 -- a question about some leaf of a clause
 unfoldable pub clause_has : List ℕ → Question → Expr (List ℕ) → Bool

@@ -2,6 +2,7 @@
 #![tactic(auto)]
 
 ghost use Rattle.std.specs.Prelude.{◌≡◌, Bool, List, ◌∷◌, ◌++◌, ℕ, ◌+◌, ◌-◌, ◌*◌, ◌<◌, ◌≤◌, length, get_or, take, drop};
+ghost use Rattle.meaning.specs.declared.Event.{Event};
 ghost use Rattle.meaning.specs.Lists.{numbers_from, any_of};
 ghost use Rattle.meaning.specs.Terms.{Expr, schema_at, kind_of, rank, bound_events, leaf_events};
 ghost use Rattle.format.specs.Grammar.{file_of, breaks_grammar};
@@ -11,7 +12,7 @@ ghost use Rattle.calls.specs.Calls.{check_terms};
 ghost use Rattle.grammar.specs.Found.{StandsExpr};
 ghost use Rattle.grammar.specs.Places.{no_items, Placed, LaidOut};
 ghost use Rattle.fields.specs.Decoded.{LeafAt, leaf_item};
-ghost use Rattle.terms.specs.Questions.{asked, asked_of_leaf, clause_has, Walks, clauses_have, ClauseAt};
+ghost use Rattle.terms.specs.Questions.{asked_of_leaf, clause_has, Walks, clauses_have, ClauseAt};
 
 use calls::Refusal;
 use fields::mask_of;
@@ -21,19 +22,13 @@ use meaning::{Atom, Bound, Event, Stage};
 // The most bytes of terms.
 pub const TERMS_LIMIT: usize = 16384;
 
-// What may be asked of an event: whether it cites a stage that does not rank below a clause; whether its kind shares nothing
-// with the subject kind.
-#[derive(Clone, Copy)]
-pub enum EventQuestion {
-    CitesFrom(usize),
-    SharesNone(u8),
-}
-
-// What may be asked of a leaf: whether a field is out of range, or a question about some event of it.
+// What may be asked of a leaf: whether a field is out of range; whether some event of it cites a stage that does not rank below a clause; whether
+// the kind of some event shares nothing with the subject kind.
 #[derive(Clone, Copy)]
 pub enum Question {
     OutOfRange,
-    SomeEvent(EventQuestion),
+    CitesFrom(usize),
+    SharesNone(u8),
 }
 
 // The rank of a stage: that of the last clause on which it depends.
@@ -100,87 +95,41 @@ fn shares_none(terms: &[u8], kinds: usize, starts: &[usize], subject: u8, event:
     mask_of(terms, kinds, kind) & mask_of(terms, kinds, subject) == 0
 }
 
-// A question about an event.
-fn event_has(
-    terms: &[u8],
-    kinds: usize,
-    starts: &[usize],
-    question: EventQuestion,
-    event: Event,
-) -> bool
-    requires { Placed terms.now kinds starts.now }
-    ensures { result ≡ asked (terms_of terms.now) question event }
-{
-    match question {
-        EventQuestion::CitesFrom(k) => cites_from(k, event),
-        EventQuestion::SharesNone(subject) => shares_none(terms, kinds, starts, subject, event),
-    }
-}
-
-// A question about the event of a bound, if it has one.
-fn bound_has(
-    terms: &[u8],
-    kinds: usize,
-    starts: &[usize],
-    question: EventQuestion,
-    bound: Bound,
-) -> bool
-    requires { Placed terms.now kinds starts.now }
-    ensures { result ≡ any_of (asked (terms_of terms.now) question) (bound_events bound) }
+// Whether the event of a bound passes a test, if it has one.
+fn bound_has<F: Fn(Event) -> bool>(bound: Bound, test: &F) -> bool
+    requires { (e : Event) → F.pre test.now e }
+    ensures { (p : Event → Bool) → ((e : Event) (b : Bool) → F.post test.now e b → b ≡ p e) → result ≡ any_of p (bound_events bound) }
 {
     match bound {
-        Bound::Plain(_) => false,
-        Bound::Plus(event, _) => event_has(terms, kinds, starts, question, event),
-        Bound::Minus(event, _) => event_has(terms, kinds, starts, question, event),
-        Bound::Open => false,
+        Bound::Plus(event, _) | Bound::Minus(event, _) => test(event),
+        Bound::Plain(_) | Bound::Open => false,
     }
 }
 
-// A question about an event and those of its window's bounds.
-fn window_has(
-    terms: &[u8],
-    kinds: usize,
-    starts: &[usize],
-    question: EventQuestion,
-    event: Event,
-    lower: Bound,
-    upper: Bound,
-) -> bool
-    requires { Placed terms.now kinds starts.now }
-    ensures { result ≡ any_of (asked (terms_of terms.now) question) (event ∷ (bound_events lower ++ bound_events upper)) }
+// Whether an event, or one of its window's bounds', passes a test.
+fn window_has<F: Fn(Event) -> bool>(event: Event, lower: Bound, upper: Bound, test: &F) -> bool
+    requires { (e : Event) → F.pre test.now e }
+    ensures { (p : Event → Bool) → ((e : Event) (b : Bool) → F.post test.now e b → b ≡ p e) → result ≡ any_of p (event ∷ (bound_events lower ++ bound_events upper)) }
 {
-    if event_has(terms, kinds, starts, question, event) {
+    if test(event) {
         return true;
     }
-    if bound_has(terms, kinds, starts, question, lower) {
+    if bound_has(lower, test) {
         return true;
     }
-    bound_has(terms, kinds, starts, question, upper)
+    bound_has(upper, test)
 }
 
-// A question about some event of a leaf: what it waits for or counts, or one of its bounds'.
-fn some_event_has(
-    terms: &[u8],
-    kinds: usize,
-    starts: &[usize],
-    question: EventQuestion,
-    leaf: Atom,
-) -> bool
-    requires { Placed terms.now kinds starts.now }
-    ensures { result ≡ any_of (asked (terms_of terms.now) question) (leaf_events leaf) }
+// Whether some event of a leaf passes a test: what it waits for or counts, or one of its bounds'.
+fn some_event_has<F: Fn(Event) -> bool>(leaf: Atom, test: &F) -> bool
+    requires { (e : Event) → F.pre test.now e }
+    ensures { (p : Event → Bool) → ((e : Event) (b : Bool) → F.post test.now e b → b ≡ p e) → result ≡ any_of p (leaf_events leaf) }
 {
     match leaf {
-        Atom::Happens(x) => {
-            let event = x.event;
-            let lower = x.lower;
-            let upper = x.upper;
-            window_has(terms, kinds, starts, question, event, lower, upper)
-        }
+        Atom::Happens(x) => window_has(x.event, x.lower, x.upper, test),
         Atom::Counts(x) => {
             let event = Event::Kind(x.kind);
-            let lower = x.lower;
-            let upper = x.upper;
-            window_has(terms, kinds, starts, question, event, lower, upper)
+            window_has(event, x.lower, x.upper, test)
         }
     }
 }
@@ -199,13 +148,15 @@ fn leaf_has(
 {
     match question {
         Question::OutOfRange => fields::leaf_wrong(terms, kinds, at, item),
-        Question::SomeEvent(asked) => {
+        Question::CitesFrom(k) => {
+            let leaf = fields::leaf_at(terms, at, item);
+            some_event_has(leaf, &|event| cites_from(k, event))
+        }
+        Question::SharesNone(subject) => {
+            let leaf = fields::leaf_at(terms, at, item);
             some_event_has(
-                terms,
-                kinds,
-                starts,
-                asked,
-                fields::leaf_at(terms, at, item),
+                leaf,
+                &|event| shares_none(terms, kinds, starts, subject, event),
             )
         }
     }
@@ -299,9 +250,9 @@ fn schema_cites(terms: &[u8], kinds: usize, starts: &[usize], n: usize) -> bool
     requires { Placed terms.now kinds starts.now × (3 * n < length starts.now) }
     ensures { result ≡ cites_too_high (terms_of terms.now) n }
 {
-    let create = Question::SomeEvent(EventQuestion::CitesFrom(3 * n));
-    let detach = Question::SomeEvent(EventQuestion::CitesFrom(3 * n + 1));
-    let consequent = Question::SomeEvent(EventQuestion::CitesFrom(3 * n + 2));
+    let create = Question::CitesFrom(3 * n);
+    let detach = Question::CitesFrom(3 * n + 1);
+    let consequent = Question::CitesFrom(3 * n + 2);
     clauses_have(terms, kinds, starts, create, detach, consequent, n)
 }
 
@@ -311,7 +262,7 @@ fn schema_unshared(terms: &[u8], kinds: usize, starts: &[usize], n: usize) -> bo
     ensures { result ≡ unshared_in (terms_of terms.now) (schema_at (terms_of terms.now) n) }
 {
     let subject = subject_of(terms, kinds, starts, n);
-    let question = Question::SomeEvent(EventQuestion::SharesNone(subject));
+    let question = Question::SharesNone(subject);
     clauses_have(terms, kinds, starts, question, question, question, n)
 }
 
