@@ -1,5 +1,5 @@
 -- What is read of an input up to a limit is its front. Assumes nothing.
-use Rattle.std.proofs.Common.{◌≡◌, refl, ap, ◌∙◌, ℕ, List, ◌++◌, length, take, IfSome, Some, None}
+use Rattle.std.proofs.Common.{refl, ap, ◌∙◌, ℕ, List, length, take, IfSome, Some, None}
 use lib.Seq.{take_at}
 use Rattle.std.specs.Option.{option_map}
 use Rattle.std.specs.declared.option.Option.{Option}

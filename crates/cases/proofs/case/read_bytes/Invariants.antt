@@ -1,5 +1,5 @@
 -- Each turn takes a token.
-use Rattle.std.proofs.Common.{length, ◌≤◌}
+use Rattle.std.proofs.Common.{◌≤◌}
 use Rattle.cases.specs.Left.{left}
 use Rattle.cases.proofs.case.read_bytes.Given as goal
 
