@@ -66,7 +66,7 @@ fn read_number(words: &mut Words<'_>, limit: usize) -> Result<usize, Failure>
 }
 
 // The next word, a number of four bytes.
-fn read_word(words: &mut Words<'_>) -> Result<u32, Failure>
+fn read_u32(words: &mut Words<'_>) -> Result<u32, Failure>
     ensures { left words.new ≤ left words.old }
 {
     let number = words.next().and_then(number_of).ok_or(Failure::BadInput)?;
@@ -123,10 +123,10 @@ fn read_used(words: &mut Words<'_>) -> Result<Option<usize>, Failure>
 fn read_report(words: &mut Words<'_>) -> Result<Call, Failure>
     ensures { left words.new ≤ left words.old }
 {
-    let moment = read_word(words)?;
+    let moment = read_u32(words)?;
     let page = read_number(words, PAGE_ROOM)?;
     let strike = if words.take(b"strike") {
-        Some(read_word(words)?)
+        Some(read_u32(words)?)
     } else {
         None
     };
@@ -143,8 +143,8 @@ fn read_standing(words: &mut Words<'_>) -> Result<Call, Failure>
 {
     Ok(Call::Standing {
         schema: read_number(words, LARGEST)?,
-        key: read_word(words)?,
-        moment: read_word(words)?,
+        key: read_u32(words)?,
+        moment: read_u32(words)?,
     })
 }
 

@@ -99,7 +99,7 @@ pub(crate) fn show_appended(
         }
         Err(refusal) => {
             println!(rt; ": {refusal}")?;
-            show_log(rt, before, log, used..used)?;
+            show_log(rt, before, log, 0..0)?;
             Ok(used)
         }
     }
