@@ -1,5 +1,5 @@
 // A case as the text writes it.
-ghost use Rattle.std.specs.Prelude.{◌<◌, ◌≤◌, OnOk};
+ghost use Rattle.std.specs.Prelude.{◌<◌, ◌≤◌, IfOk, IfSome, OnOk, vec_len};
 ghost use Rattle.cases.specs.Left.{left};
 
 use crate::token::{Token, number_of, starts_token};
@@ -56,7 +56,8 @@ pub(crate) struct Case<'a> {
 
 // The next word, a number up to a limit.
 fn read_number(words: &mut Words<'_>, limit: usize) -> Result<usize, Failure>
-    ensures { left words.new ≤ left words.old }
+    ensures falls { left words.new ≤ left words.old }
+    ensures limited { IfOk result (λ number. number ≤ limit) }
 {
     words
         .next()
@@ -75,7 +76,8 @@ fn read_u32(words: &mut Words<'_>) -> Result<u32, Failure>
 
 // The bytes of the tokens that come next, as many as there is room for.
 fn read_bytes(alloc: Global, words: &mut Words<'_>, room: usize) -> Result<Vec<u8>, Failure>
-    ensures { left words.new ≤ left words.old }
+    ensures falls { left words.new ≤ left words.old }
+    ensures fits { IfOk result (λ bytes. vec_len bytes ≤ room) }
 {
     let mut bytes = Vec::new(alloc);
     while let Some(word) = words.next_if(starts_token) {
@@ -91,7 +93,8 @@ fn read_section(
     keyword: &[u8],
     room: usize,
 ) -> Result<Option<Vec<u8>>, Failure>
-    ensures { left words.new ≤ left words.old }
+    ensures falls { left words.new ≤ left words.old }
+    ensures fits { IfOk result (λ section. IfSome section (λ bytes. vec_len bytes ≤ room)) }
 {
     if !words.take(keyword) {
         return Ok(None);

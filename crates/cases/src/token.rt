@@ -1,5 +1,5 @@
 // Bytes and numbers as words write them.
-ghost use Rattle.std.specs.Prelude.{◌<◌, IfSome};
+ghost use Rattle.std.specs.Prelude.{◌<◌, ◌≤◌, IfSome, OnOk, vec_len};
 
 use console::Failure;
 use std::alloc::{AllocError, Global};
@@ -88,7 +88,9 @@ impl Token {
     }
 
     // Puts the copies behind others, where there is room for so many bytes.
-    pub(crate) fn put(mut self, to: &mut Vec<u8>, room: usize) -> Result<(), Failure> {
+    pub(crate) fn put(mut self, to: &mut Vec<u8>, room: usize) -> Result<(), Failure>
+        ensures { vec_len to.old ≤ room → OnOk result (vec_len to.new ≤ room) }
+    {
         for _ in 0..self.copies {
             if room.saturating_sub(to.len()) < self.bytes.len() {
                 return Err(Failure::BadInput);
