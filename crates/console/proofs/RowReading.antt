@@ -8,7 +8,8 @@ use Rattle.meaning.specs.Lists.{All}
 use Rattle.meaning.specs.declared.Stage.{Stage}
 use Rattle.meaning.specs.declared.Stage.TheVariants.{Created, Detached, Expired, Discharged, Violated}
 use Rattle.meaning.specs.declared.Row.{Row}
-use Rattle.meaning.specs.declared.StageForm.TheVariants.{Is, NotAStage}
+use Rattle.meaning.specs.declared.NotAStage.{NotAStage}
+use Rattle.std.specs.Prelude.{Option, Some, None, Result, Ok, Err, ok_or}
 use Rattle.meaning.specs.Stages.{stage_number, stage_of}
 use Rattle.format.specs.Bytes.{bytes_of, number_of, number_at}
 use Rattle.format.specs.Records.{row_bytes, row_length, value_width}
@@ -50,12 +51,25 @@ numbers_back s long h =
     ∙ ap (λ (t : List ℕ). bytes_of 4 (number_at 4 s 2) ++ t) (number_back s 6 (omega (arith, long)) h)
     ∙ number_back s 2 (omega (arith, long)) h
 
+-- what is found, if something is
+found-some : (x : Option Stage) (e : NotAStage) (stage : Stage) → ok_or x e ≡ Ok stage → x ≡ Some stage
+found-some (Some y) e stage h = cc
+found-some None e stage h = absurd (let k : ◌≡◌ {A = Result Stage NotAStage} (Err e) (Ok stage) = h in cc)
+
+-- what is not found
+found-none : (x : Option Stage) (e f : NotAStage) → ok_or x e ≡ Err f → x ≡ None
+found-none (Some y) e f h = absurd (let k : ◌≡◌ {A = Result Stage NotAStage} (Ok y) (Err f) = h in cc)
+found-none None e f h = refl
+
 -- a stage that a byte names has it for its number
-pub stage_named : (form : ℕ) (stage : Stage) → stage_of form ≡ Is stage → stage_number stage ≡ form
-stage_named form stage e = grind (arith, common_steps)
+stage_number_of : (form : ℕ) (stage : Stage) → stage_of form ≡ Some stage → stage_number stage ≡ form
+stage_number_of form stage e = grind (arith, common_steps)
+
+pub stage_named : (form : ℕ) (e : NotAStage) (stage : Stage) → ok_or (stage_of form) e ≡ Ok stage → stage_number stage ≡ form
+stage_named form e stage h = stage_number_of form stage (found-some (stage_of form) e stage h)
 
 -- a stage is named by its number
-stage_back : (stage : Stage) → stage_of (stage_number stage) ≡ Is stage
+stage_back : (stage : Stage) → stage_of (stage_number stage) ≡ Some stage
 stage_back Created = refl
 stage_back Detached = refl
 stage_back Expired = refl
@@ -63,10 +77,11 @@ stage_back Discharged = refl
 stage_back Violated = refl
 
 -- bytes whose first names no stage are no row's
-pub none_named : (s : List ℕ) → stage_of (get_or s 0 0) ≡ NotAStage → (row : Row) → row_bytes value_width row ≡ s → ⊥
+pub none_named : (s : List ℕ) (e f : NotAStage) → ok_or (stage_of (get_or s 0 0)) e ≡ Err f → (row : Row) → row_bytes value_width row ≡ s → ⊥
 unfolding row_bytes
-none_named s none row e =
-    let same : Is row.stage ≡ NotAStage = sym (stage_back row.stage) ∙ ap (λ (t : List ℕ). stage_of (get_or t 0 0)) e ∙ none in cc
+none_named s e f h row same =
+    let none = found-none (stage_of (get_or s 0 0)) e f h in
+    let both : Some row.stage ≡ None = sym (stage_back row.stage) ∙ ap (λ (t : List ℕ). stage_of (get_or t 0 0)) same ∙ none in cc
 
 -- fewer bytes than a row has start with none
 pub none_short : (s : List ℕ) → length s < 18 → StartsWithRow s → ⊥

@@ -96,7 +96,9 @@ fn row_of(bytes: &[u8]) -> Option<Row>
     ensures found { IfSome result (λ row. row_bytes value_width row ≡ bytes.now) }
     ensures none { IsNone result → (row : Row) → row_bytes value_width row ≢ bytes.now }
 {
-    let stage = Stage::try_from(bytes[0]).ok()?;
+    let Ok(stage) = Stage::try_from(bytes[0]) else {
+        return None;
+    };
     Some(Row {
         stage,
         schema: bytes[1],
