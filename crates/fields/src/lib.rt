@@ -212,6 +212,7 @@ pub fn expression_at(terms: &[u8], spot: Spot) -> Option<Expression>
 }
 
 // The norm type that a byte names; one that names none, which refusal 3 turns away, is read as a power.
+#[tactic(auto, unfolding(format::specs::Fields::norm_type_of))]
 pub fn norm_type_of(byte: u8) -> NormType
     ensures { result ≡ norm_type_of byte }
 {

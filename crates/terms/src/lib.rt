@@ -32,6 +32,7 @@ pub enum Question {
 }
 
 // The rank of a stage: that of the last clause on which it depends.
+#[tactic(auto, unfolding(meaning::specs::Terms::rank))]
 pub fn rank(stage: Stage, schema: u8) -> usize
     ensures { result ≡ rank stage schema }
 {
@@ -46,6 +47,7 @@ pub fn rank(stage: Stage, schema: u8) -> usize
 }
 
 // Whether an event cites a stage that does not rank below k.
+#[tactic(auto, unfolding(format::specs::Fields::cites_from))]
 fn cites_from(k: usize, event: Event) -> bool
     ensures { result ≡ cites_from k event }
 {
@@ -76,6 +78,7 @@ fn subject_of(terms: &[u8], kinds: usize, starts: &[usize], schema: usize) -> u8
 }
 
 // The kind of the records by which an event happens.
+#[tactic(auto, unfolding(meaning::specs::Terms::kind_of))]
 fn kind_of(terms: &[u8], kinds: usize, starts: &[usize], event: Event) -> u8
     requires { Placed terms.now kinds starts.now }
     ensures { result ≡ kind_of (terms_of terms.now) event }
