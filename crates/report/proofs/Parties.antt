@@ -18,7 +18,7 @@ use Rattle.meaning.specs.Log.{carries, carried, value_of, key_of}
 use Rattle.meaning.specs.Rows.{row_of}
 use Rattle.format.specs.Bytes.{byte_at}
 use Rattle.format.specs.Grammar.{file_of}
-use Rattle.format.specs.Fields.{schema_from, head_wrong, kinds_wrong, field_wrong, terms_of}
+use Rattle.format.specs.Fields.{schema_from, head_wrong, field_wrong, terms_of}
 use Rattle.format.specs.Records.{value_width, record_length}
 use Rattle.meaning.proofs.BoolLaws.{or-false}
 use Rattle.meaning.proofs.MemberLaws.{any_of-none, numbers-mem}
@@ -26,10 +26,8 @@ use Rattle.format.proofs.PlaceLaws.{byte-within}
 use Rattle.format.proofs.KindLaws.{head-wrong-here}
 use Rattle.format.proofs.WalkLaws.{kind-here}
 use Rattle.grammar.specs.Places.{no_items, Starts}
-use Rattle.terms.specs.declared.Fault.TheVariants.{Field}
-use Rattle.terms.specs.Questions.{schema_has}
 use Rattle.terms.proofs.Steps.{schema-here, subject-here}
-use Rattle.terms.proofs.Faults.{field-faults, field-here}
+use Rattle.terms.proofs.Faults.{kind-fault, field-fault, field-faults, field-here}
 use Rattle.records.specs.Holds.{Stands, record_at}
 use Rattle.evaluate.specs.Seen.{record_in}
 
@@ -55,8 +53,9 @@ module _ (terms starts : List ℕ) (n : ℕ) (laid : Starts terms (file_of terms
   head-right : field_wrong (file_of terms) ≡ false → head_wrong (terms_of terms) (get_or (file_of terms).schemas n no_items).head ≡ false
   head-right right =
       let count = length (file_of terms).schemas in
-      let faults : any_of (schema_has terms Field) (numbers_from 0 count) ≡ false = (or-false (kinds_wrong (file_of terms)) _ (sym (field-faults terms) ∙ right)).1 in
-      let none = any_of-none (schema_has terms Field) (numbers_from 0 count) faults (numbers-mem 0 count n (omega arith) (omega (arith, there))) in
+      let kinds = any_of (kind-fault terms) (numbers_from 0 (length (file_of terms).kinds)) in
+      let faults : any_of (field-fault terms) (numbers_from 0 count) ≡ false = (or-false kinds _ (sym (field-faults terms) ∙ right)).1 in
+      let none = any_of-none (field-fault terms) (numbers_from 0 count) faults (numbers-mem 0 count n (omega arith) (omega (arith, there))) in
       (or-false (head_wrong (terms_of terms) (get_or (file_of terms).schemas n no_items).head) _ (sym (field-here terms n) ∙ none)).0
 
   -- the subject kind carries both parties
