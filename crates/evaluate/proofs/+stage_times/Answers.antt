@@ -6,7 +6,11 @@ use borrow.Author.Rules.{rules}
 use Rattle.format.specs.Grammar.{expr_limit, file_of}
 use Rattle.times.specs.declared.Needed.{Needed}
 use Rattle.times.specs.NeededTimes.{needed_of, detach_needs, consequent_needs}
-use Rattle.index.specs.Chains.{Ready, index_limit}
+use Rattle.index.specs.Chains.{Ready, push_if}
+use Rattle.meaning.specs.Lists.{All}
+use Rattle.format.specs.Bytes.{byte_at}
+use mathlib.Core.Bool.{true}
+use mathlib.Core.List.{◌∷◌}
 use Rattle.evaluate.specs.Seen.{Posed}
 use Rattle.evaluate.proofs.Expressions.{occurs-times, fails-times, leaf-times, and-times, or-times, except-times, always-times, nothing-times, stage-here}
 use Rattle.table.proofs.TableLaws.{schemas-few}
@@ -20,19 +24,20 @@ use lib.ListN.{length, drop}
 use Rattle.format.specs.Fields.{terms_of}
 use Rattle.table.specs.Table.{starts_from}
 use Rattle.records.specs.Holds.{Stands}
-use Rattle.index.proofs.Walks.{Next, walk_start, walk_end, walk-next, marked-kind}
-use Rattle.index.proofs.Found.{found-stand, all-next}
-use Rattle.evaluate.proofs.Scan.{scan-none, scan-start, scan-take, scan-skip, scan-end}
+use Rattle.index.specs.Walk.{marked_left}
+use Rattle.index.specs.Asked.{found}
+use Rattle.index.proofs.Found.{found-kind, found-stand}
+use Rattle.evaluate.proofs.Scan.{scan-none, scan-start, scan-take, scan-end}
 use Rattle.meaning.proofs.Equation.{rank-least}
 use Rattle.records.proofs.Steps.{stands-stamped}
 use Rattle.evaluate.proofs.Happens.{happens-not, happens-kind, happens-above, happens-stage}
 use Rattle.meaning.specs.declared.Stage.{Stage}
 use Rattle.meaning.specs.declared.Stage.TheVariants.{Created, Detached, Expired, Discharged, Violated}
 use Rattle.meaning.specs.declared.NormType.{NormType}
-use Rattle.meaning.specs.Terms.{rank}
+use Rattle.meaning.specs.Terms.{rank, kind_of}
 use Rattle.times.specs.declared.Needed.TheVariants.{Neither, Occurrence, Failure, Both}
 use Rattle.evaluate.proofs.+stage_times.Invariants.{weight}
-use Rattle.evaluate.proofs.+stage_times.Goals.{clause_times-After-start_in-at, failure-In-Some, first_within-In-loop-at, first_within-then-is_marked, first_within-else-is_marked, occurrence-In-Some, stage_time-Start}
+use Rattle.evaluate.proofs.+stage_times.Goals.{clause_times-After-start_in-at, failure-In-Some, first_within-In-Some, occurrence-In-Some, stage_time-Start}
 use Rattle.evaluate.proofs.+stage_times.Goals as goal
 
 -- clause_times: the times of a clause, as many as are needed
@@ -184,14 +189,19 @@ first-returns t c = search (first-here, rules)
 
 -- first_within: the earliest happening in a window: a walk along the chain of the subject's mark
 
--- what a turn knows of its word
-first_within-here : (t : ℕ) (c : first_within-In-loop-at t) → let a = c.args in
-    Next a.log.now a.table.now c.mark_of-mark.result c.loop-at.at c.loop-at.invariant.0
-first_within-here t c = walk-next _ _ _ c.loop-at.invariant.1 c.loop-at-test.true
+-- a record stands at the place of a turn, and at those that are left
+first_within-stand : (t : ℕ) (c : first_within-In-Some t) → All (Stands (terms_of c.args.terms.now) c.args.log.now) (c.in-Some.at ∷ marked_left c.next.new.self)
+first_within-stand t c = rw c.in-Some.ensures.steps at c.loop-at.invariant.0
 
--- the word is one of the index
-first_within-low : (t : ℕ) (c : first_within-In-loop-at t) → c.loop-at.at < index_limit
-first_within-low t c = omega (arith, (first_within-here t c).inside, c.requires.ready.indexed.short)
+-- they are of the event's kind
+first_within-own : (t : ℕ) (c : first_within-In-Some t) → All (λ r. byte_at c.args.log.now r ≡ kind_of (terms_of c.args.terms.now) c.args.event) (c.in-Some.at ∷ marked_left c.next.new.self)
+first_within-own t c = rw c.in-Some.ensures.steps at c.loop-at.invariant.1
+
+pub first_within-kind_of-kind-requires : goal.first_within-kind_of-kind-requires
+first_within-kind_of-kind-requires t c = c.requires.ready.read
+
+pub first_within-kind_count-requires : goal.first_within-kind_count-requires
+first_within-kind_count-requires t c = c.requires.ready.read.0.long
 
 pub first_within-returns-then-kind_count-kind : goal.first_within-returns-then-kind_count-kind
 first_within-returns-then-kind_count-kind t c =
@@ -199,51 +209,36 @@ first_within-returns-then-kind_count-kind t c =
     scan-none a.terms.now a.log.now a.clause.rank a.clause.subject a.window.lower a.window.upper a.event c.kind_of-kind.ensures
     (omega (arith, c.requires.ready.read.0.count, c.kind_count.ensures.0))
 
+pub first_within-mark_of-mark-requires : goal.first_within-mark_of-mark-requires
+first_within-mark_of-mark-requires t c = record { kinds = c.requires.ready.read.0; stands = c.requires.posed.stands; kind_in_bounds = omega (arith, c.requires.ready.read.0.count, c.kind_count.ensures.0) }
+
 pub first_within-loop-at-init : goal.first_within-loop-at-init
-first_within-loop-at-init t c = (
-  _,
-  walk_start _ _ _ _ c.requires.ready.indexed c.first_word-at.ensures,
-  found-stand _ _ _,
-  scan-start _ _ _ _ _ _ _ c.kind_of-kind.ensures c.mark_of-mark.ensures,
-)
-
-pub first_within-is_marked-requires-clause-owner_before : goal.first_within-is_marked-requires-clause-owner_before
-first_within-is_marked-requires-clause-owner_before t c = (first_within-here t c).owner
-
-pub first_within-is_marked-requires-clause-slot_width_in_bounds : goal.first_within-is_marked-requires-clause-slot_width_in_bounds
-first_within-is_marked-requires-clause-slot_width_in_bounds t c = (first_within-here t c).inside
-
-pub first_within-owner_of-requires-clause-at_lt_index_limit : goal.first_within-owner_of-requires-clause-at_lt_index_limit
-first_within-owner_of-requires-clause-at_lt_index_limit t c = first_within-low t (goal.at.first_within-owner_of-requires-clause-at_lt_index_limit t c).In-loop-at
+first_within-loop-at-init t c =
+    let ts = terms_of c.args.terms.now in
+    let log = c.args.log.now in
+    let mark = c.mark_of-mark.result in
+    let all : marked_left c.into_iter-at-iterator.result ≡ found ts log mark = rw c.into_iter-at-iterator.ensures.into_iter_gives c.new-at-items.ensures in (
+      rw all (found-stand ts log mark),
+      rw (all, ← c.kind_of-kind.ensures, ← c.mark_of-mark.ensures.kind_is) (found-kind ts log mark),
+      rw all (scan-start _ _ _ _ _ _ _ c.kind_of-kind.ensures c.mark_of-mark.ensures),
+    )
 
 pub first_within-happening-time-requires : goal.first_within-happening-time-requires
 first_within-happening-time-requires t c =
-    let is = sym c.is_marked.ensures ∙ c.if-is_marked.true in
-    let kind = marked-kind _ _ _ _ is ∙ (c.mark_of-mark.ensures.kind_is ∙ c.kind_of-kind.ensures) in
-    let stands = (all-next (Stands (terms_of c.args.terms.now) c.args.log.now) _ _ _ (first_within-here t (goal.at.first_within-happening-time-requires t c).In-loop-at).left_is c.loop-at.invariant.2).0 is in
-    (omega arith, (c.requires.ready, (c.requires.posed, rw c.owner_of.ensures (stands, kind))))
-
-pub first_within-next_of-at-requires-clause-at_lt_index_limit : goal.first_within-next_of-at-requires-clause-at_lt_index_limit
-first_within-next_of-at-requires-clause-at_lt_index_limit t c = first_within-low t (goal.at.first_within-next_of-at-requires-clause-at_lt_index_limit t c).In-loop-at
-
-pub first_within-loop-at-smaller : goal.first_within-loop-at-smaller
-first_within-loop-at-smaller t c = omega (arith, c.next_of-at.ensures, (first_within-here t (goal.at.first_within-loop-at-smaller t c).In-loop-at).falls)
+    let i = (goal.at.first_within-happening-time-requires t c).In-Some in
+    (omega arith, (c.requires.ready, (c.requires.posed, ((first_within-stand t i).0, (first_within-own t i).0))))
 
 pub first_within-loop-at-preserved : goal.first_within-loop-at-preserved
+unfolding push_if
 first_within-loop-at-preserved t c =
-    let n = first_within-here t (goal.at.first_within-loop-at-preserved t c).In-loop-at in (
-      n.rest,
-      rw c.next_of-at.ensures n.onward,
-      (all-next _ _ _ _ n.left_is c.loop-at.invariant.2).1,
-      elim c.if-is_marked.branch [
-        | first_within-then-is_marked w ↦
-            scan-take _ _ _ _ _ _ _ c.loop-at.first _ _ _ n.left_is c.loop-at.invariant.3 (sym c.is_marked.ensures ∙ w.if-is_marked.true) (rw w.owner_of.ensures at w.happening-time.ensures) w.within.ensures (w.first-is ∙ w.earlier_of-first.ensures)
-        | first_within-else-is_marked w ↦ rw w.first-is (scan-skip _ _ _ _ _ _ _ c.loop-at.first _ _ _ n.left_is c.loop-at.invariant.3 (sym c.is_marked.ensures ∙ w.if-is_marked.false))
-      ],
+    let i = (goal.at.first_within-loop-at-preserved t c).In-Some in (
+      (first_within-stand t i).1,
+      (first_within-own t i).1,
+      scan-take _ _ _ _ _ _ _ c.loop-at.first true c.in-Some.at (marked_left c.next.new.self) c.in-Some.ensures.steps c.loop-at.invariant.2 refl c.happening-time.ensures c.within.ensures c.earlier_of-first.ensures,
     )
 
 pub first_within-returns : goal.first_within-returns
-first_within-returns t c = let i = c.loop-at.invariant in scan-end _ _ _ _ _ _ _ (walk_end _ _ _ i.1 c.loop-at-test.false) i.3
+first_within-returns t c = scan-end _ _ _ _ _ _ _ c.in-None.ensures.steps.0 c.loop-at.invariant.2
 
 -- happening: when an event happens by a record
 

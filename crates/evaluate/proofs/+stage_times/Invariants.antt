@@ -1,12 +1,13 @@
 -- What falls at each call of the cycle: the rank of the clause first, then the items left, then the order in which the functions call each other.
 -- What the loop of `first_within` keeps. Assumes nothing.
 use Prim.Native.Nat.{ℕ, ◌+◌, ◌*◌}
-use mathlib.Core.List.{List}
+use mathlib.Core.Path.{◌≡◌}
 use Rattle.meaning.specs.Lists.{All}
-use Rattle.meaning.specs.Terms.{rank}
+use Rattle.meaning.specs.Terms.{rank, kind_of}
+use Rattle.format.specs.Bytes.{byte_at}
 use Rattle.format.specs.Fields.{terms_of}
 use Rattle.records.specs.Holds.{Stands}
-use Rattle.index.proofs.Walks.{Walking}
+use Rattle.index.specs.Walk.{marked_left}
 use Rattle.times.specs.declared.Needed.{Needed}
 use Rattle.times.specs.declared.Needed.TheVariants.{Neither, Occurrence, Failure, Both}
 use Rattle.evaluate.proofs.Scan.{Scanned}
@@ -54,7 +55,5 @@ decreases-stage_time l = rank l.stage l.schema * 512 + 511
 
 abbrev pub invariant-first_within-loop-at : goal.invariant-first_within-loop-at
 invariant-first_within-loop-at l =
-    (left : List ℕ) × Walking l.log l.table l.mark l.at left × All (Stands (terms_of l.terms) l.log) left × Scanned l.terms l.log l.clause.rank l.clause.subject l.window.lower l.window.upper l.event l.first left
-
-abbrev pub decreases-first_within-loop-at : goal.decreases-first_within-loop-at
-decreases-first_within-loop-at l = l.at
+    All (Stands (terms_of l.terms) l.log) (marked_left l.at-iterator) × All (λ r. byte_at l.log r ≡ kind_of (terms_of l.terms) l.event) (marked_left l.at-iterator)
+    × Scanned l.terms l.log l.clause.rank l.clause.subject l.window.lower l.window.upper l.event l.first (marked_left l.at-iterator)
