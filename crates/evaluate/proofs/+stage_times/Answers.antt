@@ -12,7 +12,7 @@ use Rattle.format.specs.Bytes.{byte_at}
 use mathlib.Core.Bool.{true}
 use mathlib.Core.List.{◌∷◌}
 use Rattle.evaluate.specs.Seen.{Posed}
-use Rattle.evaluate.proofs.Expressions.{occurs-times, fails-times, leaf-times, and-times, or-times, except-times, always-times, nothing-times, stage-here}
+use Rattle.evaluate.proofs.Expressions.{occurs-times, fails-times, expression-as, leaf-times, and-times, or-times, except-times, always-times, nothing-times, stage-here}
 use Rattle.table.proofs.TableLaws.{schemas-few}
 use Rattle.evaluate.proofs.Leaves.{count-no-lower, count-no-upper, count-more, count-few, first-here, plain_known, open-known, event-never, plus-known, minus-known, fails-no-upper, fails-unreached, fails-empty, fails-no-lower, fails_met, fails-missed, occurs-no-lower, occurs-no-upper, occurs}
 use Rattle.meaning.specs.Meaning.{and_of, or_of, except_of}
@@ -147,11 +147,6 @@ pub failure-returns-in-Happens : goal.failure-returns-in-Happens
 failure-returns-in-Happens t c =
     let a = c.args in
     rw (leaf-times a.terms.now a.log.now a.clause.rank a.clause.subject (failure-read t (goal.at.failure-returns-in-Happens t c).In-Some _ c.in-Leaf.is) c.in-Happens.is) c.leaf_failure.ensures
-
-pub failure-returns-in-Counts : goal.failure-returns-in-Counts
-failure-returns-in-Counts t c =
-    let a = c.args in
-    rw (count-as a.terms.now a.log.now a.clause.rank a.clause.subject (failure-read t (goal.at.failure-returns-in-Counts t c).In-Some _ c.in-Leaf.is) c.in-Counts.is, c.count_times.ensures)
 
 pub failure-returns-in-And : goal.failure-returns-in-And
 unfolding and_of
@@ -366,11 +361,6 @@ pub occurrence-returns-in-Happens : goal.occurrence-returns-in-Happens
 occurrence-returns-in-Happens t c =
     let a = c.args in
     rw (leaf-times a.terms.now a.log.now a.clause.rank a.clause.subject (occurrence-read t (goal.at.occurrence-returns-in-Happens t c).In-Some _ c.in-Leaf.is) c.in-Happens.is) c.leaf_occurrence.ensures
-
-pub occurrence-returns-in-Counts : goal.occurrence-returns-in-Counts
-occurrence-returns-in-Counts t c =
-    let a = c.args in
-    rw (count-as a.terms.now a.log.now a.clause.rank a.clause.subject (occurrence-read t (goal.at.occurrence-returns-in-Counts t c).In-Some _ c.in-Leaf.is) c.in-Counts.is, c.count_times.ensures)
 
 pub occurrence-returns-in-And : goal.occurrence-returns-in-And
 unfolding and_of
