@@ -1,5 +1,5 @@
 -- The model's meaning of what bytes hold, for a clause of a rank and the subject at a place of the log. Assumes nothing: these are definitions.
-use Rattle.std.specs.Prelude.{ℕ, ◌*◌, ◌<◌, List, length, Option, Some, None}
+use Rattle.std.specs.Prelude.{ℕ, ◌+◌, ◌*◌, ◌<◌, List, length, Option, Some, None}
 use Rattle.meaning.specs.declared.Time.{Time}
 use Rattle.meaning.specs.declared.Time.TheVariants.{At, Never}
 use Rattle.meaning.specs.declared.Stage.{Stage}
@@ -12,6 +12,7 @@ use Rattle.format.specs.Fields.{terms_of}
 use Rattle.format.specs.Records.{value_width, records_in}
 use Rattle.records.specs.Holds.{Stands, record_at}
 use Rattle.evaluate.specs.declared.Clause.{Clause}
+use Rattle.evaluate.specs.declared.Clauses.{Clauses}
 use Rattle.evaluate.specs.declared.Known.{Known}
 
 -- the records in the bytes of a log
@@ -41,3 +42,11 @@ pub record Posed (terms log : List ℕ) (clause : Clause) : Type 0 where
   pub ranked : clause.rank < 3 * length (file_of terms).schemas
   -- the subject's record
   pub stands : Stands (terms_of terms) log clause.subject
+
+-- the three clauses of a schema, in rank (Citation)
+abbrev pub clauses_of : ℕ → ℕ → Clauses
+clauses_of subject j = record {
+  create = record { subject = subject; rank = 3 * j };
+  detach = record { subject = subject; rank = 3 * j + 1 };
+  consequent = record { subject = subject; rank = 3 * j + 2 };
+}

@@ -20,18 +20,10 @@ use Rattle.meaning.specs.Time.{before}
 use Rattle.meaning.specs.Terms.{Terms}
 use Rattle.meaning.specs.Log.{Record, Log, key_of, key_repeats}
 use Rattle.meaning.specs.Meaning.{stage_time}
-use Rattle.meaning.specs.Rows.{row_of, is_subject, report_rows, find, is_sought, subject_of, entries_of}
+use Rattle.meaning.specs.Rows.{row_of, is_subject, report_rows, find, is_sought, subject_of, entries_of, entry}
 use Rattle.meaning.proofs.BoolLaws.{and-true}
 use Rattle.meaning.proofs.TimeLaws.{before-lt}
 use Rattle.meaning.proofs.RowLaws.{before_at, row-of, row-of-subject}
-
--- the entry of a stage
-unfoldable pub entry : Stage → Entries → Time
-entry Created e = e.created
-entry Detached e = e.detached
-entry Expired e = e.expired
-entry Discharged e = e.discharged
-entry Violated e = e.violated
 
 -- the subject of schema j with a key, stamped before m
 pub record IsSubjectOf (terms : Terms) (log : Log) (j key m : ℕ) (r : Record) : Type 0 where
@@ -74,7 +66,7 @@ subject-found terms log j key m r e =
     record { logged = found.0; is-subject = b.0; has_key = eqb-true (key_of terms r) key b.1; stamped = ltb-true r.stamp m a.1 }
 
 entry_of : (terms : Terms) (log : Log) (m j : ℕ) (r : Record) (s : Stage) → entry s (entries_of terms log m j r) ≡ before m (stage_time terms log s j r)
-unfolding entry entries_of
+unfolding entries_of
 entry_of terms log m j r Created = refl
 entry_of terms log m j r Detached = refl
 entry_of terms log m j r Expired = refl

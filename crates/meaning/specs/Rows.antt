@@ -82,3 +82,11 @@ entries_of terms log m j subject = record {
   discharged = before m (stage_time terms log Discharged j subject);
   violated = before m (stage_time terms log Violated j subject);
 }
+
+-- the entry of a stage (call 5)
+abbrev pub entry : Stage → Entries → Time
+entry Created e = e.created
+entry Detached e = e.detached
+entry Expired e = e.expired
+entry Discharged e = e.discharged
+entry Violated e = e.violated

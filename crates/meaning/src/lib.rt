@@ -5,6 +5,7 @@ ghost use Rattle.std.specs.Prelude.{◌≡◌, Some, ok_or};
 ghost use Rattle.meaning.specs.Time.{later_of, earlier_of};
 ghost use Rattle.meaning.specs.Stages.{stage_of, stage_number};
 ghost use Rattle.meaning.specs.Meaning.{and_of, or_of, except_of};
+ghost use Rattle.meaning.specs.Rows.{entry};
 ghost use Rattle.meaning.specs.Text.{stage_name, row_text};
 
 use std::fmt;
@@ -59,6 +60,15 @@ impl Stage {
     pub const DISCHARGED: u8 = 4;
 
     pub const VIOLATED: u8 = 5;
+
+    // The stages in the order of their numbers.
+    pub const ALL: [Stage; 5] = [
+        Stage::Created,
+        Stage::Detached,
+        Stage::Expired,
+        Stage::Discharged,
+        Stage::Violated,
+    ];
 }
 
 // A form byte that names no stage.
@@ -213,6 +223,21 @@ pub struct Entries {
     pub expired: Time,
     pub discharged: Time,
     pub violated: Time,
+}
+
+impl Entries {
+    // The entry of a stage.
+    pub fn of(self, stage: Stage) -> Time
+        ensures { result ≡ entry stage self }
+    {
+        match stage {
+            Stage::Created => self.created,
+            Stage::Detached => self.detached,
+            Stage::Expired => self.expired,
+            Stage::Discharged => self.discharged,
+            Stage::Violated => self.violated,
+        }
+    }
 }
 
 impl fmt::Display for Stage {

@@ -1,5 +1,6 @@
 -- No more rows than five for each record of the subject kind, and than bytes of records.
 --     schema-most      of a schema, by the records that an index finds
+--     record-five      of a record
 --     rows-short       of the records of a log, by its bytes
 -- Assumes nothing.
 use Prim.Native.Nat.{ℕ, zero, suc, ◌+◌, ◌*◌, ◌≤◌}
@@ -102,7 +103,7 @@ schema-most terms log j m is q =
 
 module _ (terms log : List ℕ) (j m : ℕ) where
   -- the record at a place has five at most
-  record-five : (at : ℕ) → length (record_rows terms log j m at) ≤ 5
+  pub record-five : (at : ℕ) → length (record_rows terms log j m at) ≤ 5
   unfolding record_rows timely
   record-five at =
       let t = terms_of terms in

@@ -3,22 +3,29 @@
 --     no_rows               what no row writes
 --     row-in, row_put       the row of an entry that is reached
 --     row_out               one that is not reached has none
---     row-whose             the rows of an agreement are those of its subject
+--     entry_rows, entry-next, entry-last, rows-whose
+--                           the rows of an agreement, by its entries, are those of its subject
 --     Left, left-…          rows of which some are left to be written
 -- Assumes nothing.
-use Prim.Native.Nat.{ℕ, ◌+◌, ◌*◌, ◌/◌, ◌%◌, ◌≤◌}
+use Prim.Native.Nat.{ℕ, ◌+◌, ◌*◌, ◌/◌, ◌%◌, ◌≤◌, ◌<◌}
 use native.Mathlib.Nat.{div-div-eq-div-mul}
+use native.Mathlib.Numerals.{add-one}
 use native.Mathlib.Omega.{arith}
 use mathlib.Core.Path.{◌≡◌, refl, ap, sym, ◌∙◌, fun_ext}
 use mathlib.Core.List.{List, [], ◌∷◌, ◌++◌, flat_map, append-nil}
-use lib.ListN.{length, set, length-append}
+use lib.ListN.{length, set, get_or, drop, length-append}
+use lib.Seq.{drop-cons}
+use Rattle.std.proofs.lemmas.List.{drop_all}
 use Rattle.meaning.specs.declared.Time.{Time}
 use Rattle.meaning.specs.declared.Time.TheVariants.{At, Never}
 use Rattle.meaning.specs.declared.Stage.{Stage}
+use Rattle.meaning.specs.declared.Stage.TheVariants.{Created}
+use Rattle.meaning.specs.declared.Entries.{Entries}
 use Rattle.meaning.specs.declared.Row.{Row}
-use Rattle.meaning.specs.Stages.{stage_number}
-use Rattle.meaning.specs.Rows.{row_of, row_at}
-use Rattle.format.specs.Bytes.{bytes_of, written}
+use Rattle.meaning.specs.Stages.{stage_number, stages}
+use Rattle.meaning.specs.Terms.{schema_at}
+use Rattle.meaning.specs.Rows.{row_of, row_at, entry}
+use Rattle.format.specs.Bytes.{byte_at, bytes_of, written}
 use Rattle.format.specs.Fields.{terms_of}
 use Rattle.format.specs.Records.{value_width, row_length, row_bytes}
 use Rattle.meaning.proofs.ListLaws.{flat_map-append}
@@ -26,8 +33,8 @@ use Rattle.format.proofs.WrittenLaws.{written-length, written_none, written-more
 use Rattle.format.proofs.RowBytesLaws.{rows-length}
 use Rattle.evaluate.specs.Seen.{record_in}
 use Rattle.report.specs.declared.rows.Agreement.{Agreement}
-use Rattle.report.specs.Shown.{row_by, with_rows}
-use Rattle.report.proofs.RowSteps.{row_in}
+use Rattle.report.specs.Shown.{row_by, entries_in, record_rows, with_rows}
+use Rattle.report.proofs.RowSteps.{row_in, record-shown}
 
 -- a number by its four bytes
 pub u32-by : (page : List ℕ) (at n : ℕ) → at + 4 ≤ length page
@@ -95,12 +102,31 @@ module _ (f : ℕ → Row) {entry : Time} where
   unfolding row_at
   row_out e = rw e
 
--- the rows of an agreement are those of its subject
-pub row-whose : (terms log : List ℕ) (subject schema : ℕ) (whose : Agreement)
+-- the rows of stages of an agreement, by their entries
+unfoldable pub entry_rows : Agreement → Entries → List Stage → List Row
+entry_rows whose e = flat_map (λ s. row_at (row_by whose s) (entry s e))
+
+module _ (whose : Agreement) (e : Entries) (n : ℕ) where
+  -- the rows of a stage come before those of the stages after it
+  pub entry-next : n < 5 → entry_rows whose e (drop n stages) ≡ row_at (row_by whose (get_or stages n Created)) (entry (get_or stages n Created) e) ++ entry_rows whose e (drop (n + 1) stages)
+  unfolding entry_rows flat_map stages
+  entry-next h = rw add-one (ap (entry_rows whose e) (drop-cons stages n Created h))
+
+  -- past the last stage there are none
+  pub entry-last : 5 ≤ n → entry_rows whose e (drop n stages) ≡ []
+  unfolding entry_rows flat_map stages
+  entry-last h = ap (entry_rows whose e) (drop_all n stages h)
+
+-- those of all stages are those of its subject
+pub rows-whose : (terms log : List ℕ) (subject schema m : ℕ) (whose : Agreement) (e : Entries)
+    → byte_at log subject ≡ (schema_at (terms_of terms) schema).subject
     → ((s : Stage) (t : ℕ) → row_by whose s t ≡ row_of (terms_of terms) schema (record_in terms log subject) s t)
-    → (s : Stage) (entry : Time) → row_in terms log subject schema s entry ≡ row_at (row_by whose s) entry
-unfolding row_in
-row-whose terms log subject schema whose e s entry = ap (λ (f : ℕ → Row). row_at f entry) (fun_ext λ t. sym (e s t))
+    → e ≡ entries_in terms log subject schema m
+    → record_rows terms log schema m subject ≡ entry_rows whose e stages
+unfolding row_in entry_rows
+rows-whose terms log subject schema m whose e is same shown =
+    record-shown terms log schema m subject is shown
+    ∙ ap (λ (f : Stage → List Row). flat_map f stages) (fun_ext λ s. ap (λ (f : ℕ → Row). row_at f (entry s e)) (fun_ext λ t. sym (same s t)))
 
 -- rows have so many bytes each
 rows-bytes : (rows : List Row) → length (flat_map (row_bytes value_width) rows) ≡ row_length value_width * length rows

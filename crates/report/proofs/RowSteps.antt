@@ -1,7 +1,9 @@
 -- The rows of a report in the order in which they are counted and written: by schema, then by record, then by stage.
 --     row_in                            the row of an entry
---     is-subject                       whether a record is a subject
---     record-other, record-shown       the rows of one record under a schema
+--     count-parts                       how many there are, part by part
+--     is-subject                        whether a record is a subject
+--     record-other, record-shown, record-count
+--                                       the rows of one record under a schema
 --     rows_of_places, rows_step, rows_none, rows_all, rows-count
 --                                      the rows of records at places
 --     schemas-step, schemas-none       the rows of the schemas from a number on
@@ -12,19 +14,18 @@ use native.Mathlib.Nat.{sub-zero}
 use native.Mathlib.Numerals.{add-one}
 use native.Mathlib.Omega.{arith}
 use mathlib.Core.Path.{◌≡◌, refl, ap, sym, ◌∙◌}
-use mathlib.Core.List.{List, [], ◌∷◌, ◌++◌, map, flat_map, append-nil}
+use mathlib.Core.List.{List, [], ◌∷◌, ◌++◌, map, flat_map}
 use lib.Dec.{eqb}
 use lib.ListN.{length, length-append, take}
 use borrow.Author.Tests.{eq-eqb, ne_eqb}
 use Rattle.meaning.specs.declared.Time.{Time}
 use Rattle.meaning.specs.declared.Stage.{Stage}
-use Rattle.meaning.specs.declared.Stage.TheVariants.{Created, Detached, Expired, Discharged, Violated}
 use Rattle.meaning.specs.declared.Entries.{Entries}
 use Rattle.meaning.specs.declared.Row.{Row}
 use Rattle.meaning.specs.Lists.{numbers_from}
 use Rattle.meaning.specs.Stages.{stages}
 use Rattle.meaning.specs.Terms.{schema_at}
-use Rattle.meaning.specs.Rows.{row_of, row_at, is_subject, subject_rows, timed_rows, strike, report_rows, entries_of}
+use Rattle.meaning.specs.Rows.{row_of, row_at, is_subject, subject_rows, timed_rows, strike, report_rows, entries_of, entry}
 use Rattle.format.specs.Bytes.{byte_at}
 use Rattle.format.specs.Fields.{terms_of}
 use Rattle.format.specs.Records.{value_width, log_of}
@@ -47,6 +48,15 @@ rows_of_places terms log schema m places = timely m (flat_map (subject_rows (ter
 unfoldable pub row_in : List ℕ → List ℕ → ℕ → ℕ → Stage → Time → List Row
 row_in terms log subject schema s t = row_at (row_of (terms_of terms) schema (record_in terms log subject) s) t
 
+-- as many as the parts have
+pub count-parts : {A B : Type 0} (f : A → List B) (xs : List A) → sum (map (λ x. length (f x)) xs) ≡ length (flat_map f xs)
+unfolding flat_map
+count-parts f [] = refl
+count-parts f (x ∷ xs) =
+    sum_by-cons (λ n. n) (length (f x)) (map (λ y. length (f y)) xs)
+    ∙ ap (λ n. length (f x) + n) (count-parts f xs)
+    ∙ sym (length-append (f x) (flat_map f xs))
+
 module _ (terms log : List ℕ) where
   -- whether a record is a subject, by its first byte
   pub is-subject : (schema at : ℕ) → is_subject (terms_of terms) schema (record_in terms log at) ≡ eqb (byte_at log at) (schema_at (terms_of terms) schema).subject
@@ -61,15 +71,16 @@ module _ (terms log : List ℕ) where
 
     -- a subject has a row for each entry with a time, in the order of the stages
     pub record-shown : byte_at log at ≡ (schema_at (terms_of terms) schema).subject → {e : Entries} → e ≡ entries_in terms log at schema m
-        → record_rows terms log schema m at
-        ≡ row_in terms log at schema Created e.created
-        ++ (row_in terms log at schema Detached e.detached
-        ++ (row_in terms log at schema Expired e.expired
-        ++ (row_in terms log at schema Discharged e.discharged ++ row_in terms log at schema Violated e.violated)))
+        → record_rows terms log schema m at ≡ flat_map (λ s. row_in terms log at schema s (entry s e)) stages
     unfolding record_rows timely subject_rows_at rows_at row_in entries_in entries_of stages flat_map
     record-shown is e =
         strike-subject (terms_of terms) (log_in terms log) m schema (record_in terms log at)
-        ∙ rw (is-subject schema at ∙ eq-eqb (byte_at log at) _ is, subject_rows_at, e, append-nil)
+        ∙ rw (is-subject schema at ∙ eq-eqb (byte_at log at) _ is, subject_rows_at, e)
+
+    -- as many as its entries have
+    pub record-count : byte_at log at ≡ (schema_at (terms_of terms) schema).subject → {e : Entries} → e ≡ entries_in terms log at schema m
+        → sum (map (λ s. length (row_in terms log at schema s (entry s e))) stages) ≡ length (record_rows terms log schema m at)
+    record-count is {e} shown = count-parts (λ s. row_in terms log at schema s (entry s e)) stages ∙ sym (ap length (record-shown is shown))
 
     -- the rows of the record at a place come before those of the records after it
     pub rows_step : (places : List ℕ) → rows_of_places terms log schema m (at ∷ places) ≡ record_rows terms log schema m at ++ rows_of_places terms log schema m places

@@ -15,7 +15,7 @@ ghost use Rattle.evaluate.specs.Seen.{record_in};
 ghost use Rattle.report.specs.Shown.{entries_in, row_by, record_rows, rows_from, schemas_from, with_rows};
 
 use crate::ROW_LENGTH;
-use evaluate::{Clause, clause_times};
+use evaluate::{Clauses, clause_times};
 use index::{all_of, count_with};
 use meaning::{Entries, Row, Stage, Time};
 use records::{Masked, Records, key_at, stamp_at, value_of};
@@ -23,7 +23,7 @@ use table::{VALUE_WIDTH, head_at, mask_in, norm_type, schema_count, subject_of};
 use times::{ClauseTimes, Needed, before, consequent_needs_all};
 
 // What is asked for: the subject at a place, under a schema, at a moment.
-#[derive(Clone, Copy)]
+#[derive(Clone, Copy, Debug, PartialEq, Eq)]
 pub(crate) struct Asked {
     pub(crate) subject: usize,
     pub(crate) schema: usize,
@@ -31,7 +31,7 @@ pub(crate) struct Asked {
 }
 
 // What all rows of a subject under a schema have in common.
-#[derive(Clone, Copy)]
+#[derive(Clone, Copy, Debug, PartialEq, Eq)]
 struct Agreement {
     schema: u8,
     key: u32,
@@ -46,38 +46,25 @@ pub(crate) fn entries_of(terms: &[u8], log: &[u8], table: &[u16], asked: Asked) 
     requires stands { Stands (terms_of terms.now) log.now asked.subject }
     ensures { result ≡ entries_in terms.now log.now asked.subject asked.schema asked.moment }
 {
-    let subject = asked.subject;
-    let moment = asked.moment;
-    let first = 3 * asked.schema;
-    let create = Clause {
-        subject,
-        rank: first,
-    };
-    let detach = Clause {
-        subject,
-        rank: first + 1,
-    };
-    let consequent = Clause {
-        subject,
-        rank: first + 2,
-    };
     let norm = norm_type(terms, table, asked.schema);
-    let stamp = stamp_at(log, subject);
+    let stamp = stamp_at(log, asked.subject);
     let needed = consequent_needs_all(norm);
-    let c = clause_times(terms, log, table, create, Needed::Occurrence);
-    let r = clause_times(terms, log, table, detach, Needed::Both);
-    let u = clause_times(terms, log, table, consequent, needed);
+    let clauses = Clauses::of(asked.subject, asked.schema);
+    let c = clause_times(terms, log, table, clauses.create, Needed::Occurrence);
+    let r = clause_times(terms, log, table, clauses.detach, Needed::Both);
+    let u = clause_times(terms, log, table, clauses.consequent, needed);
     let times = ClauseTimes {
         create: c,
         detach: r,
         consequent: u,
     };
+    let entry = |stage: Stage| before(asked.moment, times.stage_from(stage, norm, stamp));
     Entries {
-        created: before(moment, times.stage_from(Stage::Created, norm, stamp)),
-        detached: before(moment, times.stage_from(Stage::Detached, norm, stamp)),
-        expired: before(moment, times.stage_from(Stage::Expired, norm, stamp)),
-        discharged: before(moment, times.stage_from(Stage::Discharged, norm, stamp)),
-        violated: before(moment, times.stage_from(Stage::Violated, norm, stamp)),
+        created: entry(Stage::Created),
+        detached: entry(Stage::Detached),
+        expired: entry(Stage::Expired),
+        discharged: entry(Stage::Discharged),
+        violated: entry(Stage::Violated),
     }
 }
 
@@ -98,21 +85,14 @@ fn count_record(terms: &[u8], log: &[u8], table: &[u16], asked: Asked) -> usize
     requires stands { Stands (terms_of terms.now) log.now asked.subject }
     ensures { (result ≡ length (record_rows terms.now log.now asked.schema asked.moment asked.subject)) × (result ≤ 5) }
 {
-    let subject = asked.subject;
-    if log[subject] != subject_of(terms, table, asked.schema) {
+    if log[asked.subject] != subject_of(terms, table, asked.schema) {
         return 0;
     }
     let entries = entries_of(terms, log, table, asked);
-    let created = entries.created;
-    let detached = entries.detached;
-    let expired = entries.expired;
-    let discharged = entries.discharged;
-    let violated = entries.violated;
-    row_count(created)
-        + row_count(detached)
-        + row_count(expired)
-        + row_count(discharged)
-        + row_count(violated)
+    Stage::ALL
+        .iter()
+        .map(|stage| row_count(entries.of(*stage)))
+        .sum()
 }
 
 // How many rows a schema has.
@@ -246,31 +226,26 @@ fn write_record(
     table: &[u16],
     asked: Asked,
     page: &mut [u8],
-    to: usize,
+    from: usize,
 ) -> usize
     requires ready { Ready terms.now log.now table.now }
     requires schema_in_bounds { asked.schema < length (file_of terms.now).schemas }
     requires stands { Stands (terms_of terms.now) log.now asked.subject }
-    requires rows_fit { to + row_length value_width * length (record_rows terms.now log.now asked.schema asked.moment asked.subject) ≤ length page.old }
-    ensures { (result ≡ to + row_length value_width * length (record_rows terms.now log.now asked.schema asked.moment asked.subject)) × (page.new ≡ with_rows page.old to (record_rows terms.now log.now asked.schema asked.moment asked.subject)) }
+    requires rows_fit { from + row_length value_width * length (record_rows terms.now log.now asked.schema asked.moment asked.subject) ≤ length page.old }
+    ensures { (result ≡ from + row_length value_width * length (record_rows terms.now log.now asked.schema asked.moment asked.subject)) × (page.new ≡ with_rows page.old from (record_rows terms.now log.now asked.schema asked.moment asked.subject)) }
 {
     let subject = asked.subject;
     let schema = asked.schema;
     if log[subject] != subject_of(terms, table, schema) {
-        return to;
+        return from;
     }
     let entries = entries_of(terms, log, table, asked);
-    let created = entries.created;
-    let detached = entries.detached;
-    let expired = entries.expired;
-    let discharged = entries.discharged;
-    let violated = entries.violated;
     let whose = agreement_of(terms, log, table, subject, schema);
-    let to = write_entry(page, to, whose, Stage::Created, created);
-    let to = write_entry(page, to, whose, Stage::Detached, detached);
-    let to = write_entry(page, to, whose, Stage::Expired, expired);
-    let to = write_entry(page, to, whose, Stage::Discharged, discharged);
-    write_entry(page, to, whose, Stage::Violated, violated)
+    let mut to = from;
+    for stage in &Stage::ALL {
+        to = write_entry(page, to, whose, *stage, entries.of(*stage));
+    }
+    to
 }
 
 // Writes the rows of a schema. The place after them.

@@ -435,16 +435,18 @@ stage_time-posed t a rank h = (a.requires.ready, record { ranked = h; stands = a
 
 pub stage_time-clause_times-c-requires : goal.stage_time-clause_times-c-requires
 stage_time-clause_times-c-requires t c =
-    (omega (arith, stage_time-create-below c.args.stage c.args.schema), stage_time-posed t (goal.at.stage_time-clause_times-c-requires t c).Start (3 * c.args.schema) (omega (arith, c.requires.schema_in_bounds)))
+    rw c.of-clauses.ensures (omega (arith, stage_time-create-below c.args.stage c.args.schema), stage_time-posed t (goal.at.stage_time-clause_times-c-requires t c).Start (3 * c.args.schema) (omega (arith, c.requires.schema_in_bounds)))
 
 pub stage_time-clause_times-r-requires : goal.stage_time-clause_times-r-requires
 stage_time-clause_times-r-requires t c =
-    (rw c.detach_needs-needed.ensures (omega (arith, stage_time-detach-below c.args.stage c.args.schema)), stage_time-posed t (goal.at.stage_time-clause_times-r-requires t c).Start (3 * c.args.schema + 1) (omega (arith, c.requires.schema_in_bounds)))
+    rw (c.of-clauses.ensures, c.detach_needs-needed.ensures)
+    (omega (arith, stage_time-detach-below c.args.stage c.args.schema), stage_time-posed t (goal.at.stage_time-clause_times-r-requires t c).Start (3 * c.args.schema + 1) (omega (arith, c.requires.schema_in_bounds)))
 
 pub stage_time-clause_times-u-requires : goal.stage_time-clause_times-u-requires
 stage_time-clause_times-u-requires t c =
     let below = stage_time-consequent-below c.args.stage c.norm_type-norm.result c.args.schema in
-    (rw c.consequent_needs-needed_last.ensures (omega (arith, below)), stage_time-posed t (goal.at.stage_time-clause_times-u-requires t c).Start (3 * c.args.schema + 2) (omega (arith, c.requires.schema_in_bounds)))
+    rw (c.of-clauses.ensures, c.consequent_needs-needed_last.ensures)
+    (omega (arith, below), stage_time-posed t (goal.at.stage_time-clause_times-u-requires t c).Start (3 * c.args.schema + 2) (omega (arith, c.requires.schema_in_bounds)))
 
 pub stage_time-stamp_at-requires : goal.stage_time-stamp_at-requires
 stage_time-stamp_at-requires t c = stands-stamped _ c.args.log.now c.args.subject c.requires.stands
@@ -453,4 +455,4 @@ pub stage_time-returns : goal.stage_time-returns
 stage_time-returns t c =
     stage-here c.args.terms.now c.args.log.now (drop starts_from c.args.table.now) c.args.subject c.args.schema c.requires.ready.read.1.starts c.requires.schema_in_bounds c.args.stage
     c.stage_from.ensures c.norm_type-norm.ensures (c.stamp_at.ensures _) c.detach_needs-needed.ensures c.consequent_needs-needed_last.ensures
-    c.clause_times-c.ensures c.clause_times-r.ensures c.clause_times-u.ensures
+    (rw c.of-clauses.ensures at c.clause_times-c.ensures) (rw c.of-clauses.ensures at c.clause_times-r.ensures) (rw c.of-clauses.ensures at c.clause_times-u.ensures)

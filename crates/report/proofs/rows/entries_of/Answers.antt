@@ -3,6 +3,7 @@ use Prim.Native.Nat.{◌<◌}
 use native.Mathlib.Omega.{arith}
 use mathlib.Core.Path.{◌≡◌, refl}
 use lib.ListN.{drop}
+use borrow.Author.Rules.{rules}
 use Rattle.meaning.specs.declared.Time.{Time}
 use Rattle.meaning.specs.declared.Time.TheVariants.{At}
 use Rattle.meaning.specs.declared.Stage.{Stage}
@@ -24,25 +25,17 @@ unfolding schemas_limit
 few s = omega (arith, s.requires.schema_in_bounds, schemas-few s.args.terms.now refl)
 
 -- an entry from the times of the clauses
-entry : (u : After-clause_times-u) (s : Stage) {time entry : Time} → let a = u.args in
-    time ≡ later_of (At u.stamp_at-stamp.result) (stage_from s u.norm_type-norm.result u.clause_times-c.result u.clause_times-r.result u.clause_times-u.result)
-    → entry ≡ before a.asked.moment time → entry ≡ before a.asked.moment (stage_in a.terms.now a.log.now a.asked.subject s a.asked.schema)
-entry u s e b =
+entry : (u : After-clause_times-u) (s : Stage) {entry : Time} → let a = u.args in
+    entry ≡ before a.asked.moment (later_of (At u.stamp_at-stamp.result) (stage_from s u.norm_type-norm.result u.clause_times-c.result u.clause_times-r.result u.clause_times-u.result))
+    → entry ≡ before a.asked.moment (stage_in a.terms.now a.log.now a.asked.subject s a.asked.schema)
+entry u s b =
     entry_here u.args.terms.now u.args.log.now (drop starts_from u.args.table.now) u.args.asked.subject u.args.asked.schema u.requires.ready.read.1.starts u.requires.schema_in_bounds s u.args.asked.moment
     u.norm_type-norm.ensures (u.stamp_at-stamp.ensures _) u.consequent_needs_all-needed.ensures
-    u.clause_times-c.ensures u.clause_times-r.ensures u.clause_times-u.ensures e b
+    (rw u.of-clauses.ensures at u.clause_times-c.ensures) (rw u.of-clauses.ensures at u.clause_times-r.ensures) (rw u.of-clauses.ensures at u.clause_times-u.ensures) refl b
 
-pub overflow_mul-first : goal.overflow_mul-first
+pub of-clauses-requires : goal.of-clauses-requires
 unfolding schemas_limit
-overflow_mul-first c = omega (arith, few (goal.at.overflow_mul-first c).Start)
-
-pub overflow_add-detach : goal.overflow_add-detach
-unfolding schemas_limit
-overflow_add-detach c = omega (arith, few (goal.at.overflow_add-detach c).Start)
-
-pub overflow_add-consequent : goal.overflow_add-consequent
-unfolding schemas_limit
-overflow_add-consequent c = omega (arith, few (goal.at.overflow_add-consequent c).Start)
+of-clauses-requires c = omega (arith, few (goal.at.of-clauses-requires c).Start)
 
 pub norm_type-norm-requires : goal.norm_type-norm-requires
 unfolding schemas_limit
@@ -54,18 +47,17 @@ stamp_at-stamp-requires c = stands-stamped _ c.args.log.now c.args.asked.subject
 
 pub clause_times-c-requires : goal.clause_times-c-requires
 unfolding schemas_limit
-clause_times-c-requires c = record { ready = c.requires.ready; posed = record { ranked = omega (arith, c.requires.schema_in_bounds); stands = c.requires.stands } }
+clause_times-c-requires c = rw c.of-clauses.ensures (record { ready = c.requires.ready; posed = record { ranked = omega (arith, c.requires.schema_in_bounds); stands = c.requires.stands } })
 
 pub clause_times-r-requires : goal.clause_times-r-requires
 unfolding schemas_limit
-clause_times-r-requires c = record { ready = c.requires.ready; posed = record { ranked = omega (arith, c.requires.schema_in_bounds); stands = c.requires.stands } }
+clause_times-r-requires c = rw c.of-clauses.ensures (record { ready = c.requires.ready; posed = record { ranked = omega (arith, c.requires.schema_in_bounds); stands = c.requires.stands } })
 
 pub clause_times-u-requires : goal.clause_times-u-requires
 unfolding schemas_limit
-clause_times-u-requires c = record { ready = c.requires.ready; posed = record { ranked = omega (arith, c.requires.schema_in_bounds); stands = c.requires.stands } }
+clause_times-u-requires c = rw c.of-clauses.ensures (record { ready = c.requires.ready; posed = record { ranked = omega (arith, c.requires.schema_in_bounds); stands = c.requires.stands } })
 
 pub returns : goal.returns
 returns c =
-    entries-here _ _ _ _ _ (entry (goal.at.returns c).After-clause_times-u Created c.stage_from.ensures c.before-2.ensures) (entry (goal.at.returns c).After-clause_times-u Detached c.stage_from-2.ensures c.before-3.ensures)
-    (entry (goal.at.returns c).After-clause_times-u Expired c.stage_from-3.ensures c.before-4.ensures) (entry (goal.at.returns c).After-clause_times-u Discharged c.stage_from-4.ensures c.before-5.ensures)
-    (entry (goal.at.returns c).After-clause_times-u Violated c.stage_from-5.ensures c.before-6.ensures)
+    let u = (goal.at.returns c).After-clause_times-u in
+    entries-here _ _ _ _ _ (entry u Created (search rules)) (entry u Detached (search rules)) (entry u Expired (search rules)) (entry u Discharged (search rules)) (entry u Violated (search rules))
