@@ -1,5 +1,5 @@
--- What a decoded event, bound or expression stands for in the model. Assumes nothing: these are definitions.
-use Rattle.std.specs.Prelude.{ℕ, suc, ◌+◌, ◌≤◌, ◌<◌, ◌≡◌, ◌⊎◌, List, Option, Some, None, length, take, drop}
+-- The signs of a bound by their bytes, and what a decoded event, bound or expression stands for in the model. Assumes nothing: these are definitions.
+use Rattle.std.specs.Prelude.{ℕ, suc, ◌+◌, ◌≤◌, ◌<◌, ◌≡◌, ◌⊎◌, List, Option, Some, None, Result, MatchResult, length, take, drop}
 use Rattle.std.proofs.Math.Option.{none, some}
 use Rattle.std.proofs.Math.Option as model
 use Rattle.meaning.specs.declared.Atom.{Atom}
@@ -10,8 +10,22 @@ use Rattle.grammar.specs.declared.Item.{Item}
 use Rattle.grammar.specs.declared.Item.TheVariants.{Leaf, Count}
 use Rattle.grammar.specs.declared.Spot.{Spot}
 use Rattle.grammar.specs.Items.{code_of, body_of}
+use Rattle.fields.specs.declared.Sign.{Sign}
+use Rattle.fields.specs.declared.Sign.TheVariants.{Plain, Plus, Minus, Open}
+use Rattle.fields.specs.declared.UnknownSign.{UnknownSign}
 use Rattle.fields.specs.declared.Expression.{Expression}
 use Rattle.fields.specs.declared.Expression.TheVariants as expression
+
+-- the byte of a sign (item 03, signs 0 to 3)
+abbrev pub sign_byte : Sign → ℕ
+sign_byte Plain = 0
+sign_byte Plus = 1
+sign_byte Minus = 2
+sign_byte Open = 3
+
+-- the sign with this byte, or an error with a byte that no sign has
+abbrev pub Signs : ℕ → Result Sign UnknownSign → Type 0
+Signs byte r = MatchResult r (λ sign. sign_byte sign ≡ byte) (λ e. (e.0 ≡ byte) × (byte ≤ 3 → ⊥))
 
 -- what is decoded, as the model has it
 abbrev pub decoded : {A : Type 0} → Option A → model.Option A

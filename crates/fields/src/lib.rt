@@ -6,7 +6,7 @@ ghost use Rattle.meaning.specs.Terms.{Terms, kind_at};
 ghost use Rattle.meaning.specs.Log.{carries};
 ghost use Rattle.format.specs.Grammar.{file_of};
 ghost use Rattle.format.specs.Fields.{norm_type_of, event_of, bound_of, happening_of, count_of, neither, leaf_from, kind_wrong, head_wrong, event_wrong, bound_wrong, happening_wrong, count_wrong, leaf_wrong, terms_of};
-ghost use Rattle.fields.specs.Decoded.{decoded, LeafAt, leaf_item, OperandsAt, ExpressionAt};
+ghost use Rattle.fields.specs.Decoded.{decoded, Signs, LeafAt, leaf_item, OperandsAt, ExpressionAt};
 
 use grammar::{Item, Spot, item_at, read_expression, u16_at, u32_at};
 use meaning::{Atom, Bound, CountLeaf, Event, Leaf, NormType, Stage};
@@ -16,15 +16,6 @@ pub const ATTRIBUTES: u8 = 16;
 
 // The largest offset.
 pub const OFFSET_LIMIT: u32 = 2147483647;
-
-// The signs of a bound.
-pub const PLAIN: u8 = 0;
-
-pub const PLUS: u8 = 1;
-
-pub const MINUS: u8 = 2;
-
-pub const OPEN: u8 = 3;
 
 // The form of an event that is a kind.
 pub const KIND_FORM: u8 = 0;
@@ -37,6 +28,35 @@ pub const AUTHORIZATION: u8 = 2;
 pub const PROHIBITION: u8 = 3;
 
 pub const POWER: u8 = 4;
+
+// The signs of a bound.
+#[derive(Clone, Copy)]
+enum Sign {
+    Plain = 0,
+    Plus = 1,
+    Minus = 2,
+    Open = 3,
+}
+
+// A byte that is no bound's sign.
+#[derive(Clone, Copy)]
+struct UnknownSign(u8);
+
+impl TryFrom<u8> for Sign {
+    type Error = UnknownSign;
+
+    ghost try_from_gives = { Signs };
+
+    fn try_from(byte: u8) -> Result<Self, UnknownSign> {
+        match byte {
+            0 => Ok(Sign::Plain),
+            1 => Ok(Sign::Plus),
+            2 => Ok(Sign::Minus),
+            3 => Ok(Sign::Open),
+            _ => Err(UnknownSign(byte)),
+        }
+    }
+}
 
 // What an expression at a place is: a leaf or a count; a connective, with the spots of its two operands; or always.
 #[derive(Clone, Copy)]
@@ -97,14 +117,16 @@ fn bound_at(terms: &[u8], at: usize) -> Option<Bound>
     requires { at + 7 ≤ length terms.now }
     ensures { decoded result ≡ bound_of terms.now at }
 {
+    let Ok(sign) = Sign::try_from(terms[at]) else {
+        return None;
+    };
     let event = event_of(terms[at + 1], terms[at + 2]);
     let offset = u32_at(terms, at + 3);
-    match terms[at] {
-        PLAIN => Some(Bound::Plain(offset)),
-        PLUS => Some(Bound::Plus(event?, offset)),
-        MINUS => Some(Bound::Minus(event?, offset)),
-        OPEN => Some(Bound::Open),
-        _ => None,
+    match sign {
+        Sign::Plain => Some(Bound::Plain(offset)),
+        Sign::Plus => Some(Bound::Plus(event?, offset)),
+        Sign::Minus => Some(Bound::Minus(event?, offset)),
+        Sign::Open => Some(Bound::Open),
     }
 }
 
@@ -276,29 +298,26 @@ fn bound_wrong(terms: &[u8], kinds: usize, at: usize) -> bool
     requires { at + 7 ≤ length terms.now }
     ensures { (t : Terms) → kinds ≡ length t.kinds → result ≡ bound_wrong t terms.now at }
 {
+    let Ok(sign) = Sign::try_from(terms[at]) else {
+        return true;
+    };
     let form = terms[at + 1];
     let number = terms[at + 2];
     let offset = u32_at(terms, at + 3);
-    match terms[at] {
-        PLAIN => {
+    match sign {
+        Sign::Plain => {
             if form != 0 || number != 0 {
                 return true;
             }
             OFFSET_LIMIT < offset
         }
-        PLUS | MINUS => {
-            if event_wrong(kinds, form, number) {
-                return true;
-            }
-            OFFSET_LIMIT < offset
-        }
-        OPEN => {
+        Sign::Plus | Sign::Minus => event_wrong(kinds, form, number) || OFFSET_LIMIT < offset,
+        Sign::Open => {
             if form != 0 || number != 0 {
                 return true;
             }
             offset != 0
         }
-        _ => true,
     }
 }
 
@@ -310,7 +329,7 @@ fn happening_wrong(terms: &[u8], kinds: usize, at: usize) -> bool
     if event_wrong(kinds, terms[at + 1], terms[at + 2]) {
         return true;
     }
-    if terms[at + 3] == OPEN {
+    if terms[at + 3] == Sign::Open as u8 {
         return true;
     }
     if bound_wrong(terms, kinds, at + 3) {
@@ -328,13 +347,13 @@ fn count_wrong(terms: &[u8], kinds: usize, at: usize) -> bool
     if kinds <= kind as usize {
         return true;
     }
-    if terms[at + 6] == OPEN {
+    if terms[at + 6] == Sign::Open as u8 {
         return true;
     }
     if bound_wrong(terms, kinds, at + 6) {
         return true;
     }
-    if terms[at + 13] == OPEN {
+    if terms[at + 13] == Sign::Open as u8 {
         return true;
     }
     bound_wrong(terms, kinds, at + 13)

@@ -1,21 +1,26 @@
--- `bound_at` meets its contract where an event is read for it. Assumes nothing.
+-- `bound_at` meets its contract where an event is read for it, and where no sign is. Assumes nothing.
+use mathlib.Core.Path.{sym}
 use mathlib.Core.Option.{bind}
 use Rattle.format.specs.Bytes.{byte_at}
 use Rattle.format.specs.Fields.{bound_of}
 use Rattle.fields.proofs.bound_at.Goals as goal
 
-pub returns-in_err-event-in-1 : goal.returns-in_err-event-in-1
+pub returns-in_err-event-in-Plus : goal.returns-in_err-event-in-Plus
 unfolding bound_of byte_at bind
-returns-in_err-event-in-1 c = rw (c.from_residual.ensures, c.in-1.is, ← c.in_err-event-in-1.ensures)
+returns-in_err-event-in-Plus c =
+    rw (c.from_residual.ensures, sym (rw c.in-Plus.is at c.in-Ok.ensures), ← c.in_err-event-in-Plus.ensures)
 
-pub returns-in_err-event-in-2 : goal.returns-in_err-event-in-2
+pub returns-in_err-event-in-Minus : goal.returns-in_err-event-in-Minus
 unfolding bound_of byte_at bind
-returns-in_err-event-in-2 c = rw (c.from_residual-in_err-event-in-2.ensures, c.in-2.is, ← c.in_err-event-in-2.ensures)
+returns-in_err-event-in-Minus c =
+    rw (c.from_residual-in_err-event-in-Minus.ensures, sym (rw c.in-Minus.is at c.in-Ok.ensures), ← c.in_err-event-in-Minus.ensures)
 
-pub returns-in_ok-event-in-1 : goal.returns-in_ok-event-in-1
+pub returns-in_ok-event-in-Plus : goal.returns-in_ok-event-in-Plus
 unfolding bound_of byte_at bind
-returns-in_ok-event-in-1 c = rw (c.in-1.is, ← c.in_ok-event-in-1.ensures, ← c.u32_at-offset.ensures)
+returns-in_ok-event-in-Plus c =
+    rw (sym (rw c.in-Plus.is at c.in-Ok.ensures), ← c.in_ok-event-in-Plus.ensures, ← c.u32_at-offset.ensures)
 
-pub returns-in_ok-event-in-2 : goal.returns-in_ok-event-in-2
+pub returns-in_ok-event-in-Minus : goal.returns-in_ok-event-in-Minus
 unfolding bound_of byte_at bind
-returns-in_ok-event-in-2 c = rw (c.in-2.is, ← c.in_ok-event-in-2.ensures, ← c.u32_at-offset.ensures)
+returns-in_ok-event-in-Minus c =
+    rw (sym (rw c.in-Minus.is at c.in-Ok.ensures), ← c.in_ok-event-in-Minus.ensures, ← c.u32_at-offset.ensures)

@@ -16,26 +16,26 @@ pub returns-then-kinds-kind : goal.returns-then-kinds-kind
 unfolding byte_at
 returns-then-kinds-kind c t h = rw (count-wrong-here t _ _, ← h, le-leb _ _ c.if-kinds-kind.true)
 
-pub returns-then-terms-at-eq-OPEN : goal.returns-then-terms-at-eq-OPEN
+pub returns-then-terms-at : goal.returns-then-terms-at
 unfolding byte_at
-returns-then-terms-at-eq-OPEN c t h =
-    rw (count-wrong-here t _ _, ← h, lt-leb _ _ c.if-kinds-kind.false, eq-eqb _ _ c.if-terms-at-eq-OPEN.true)
+returns-then-terms-at c t h =
+    rw (count-wrong-here t _ _, ← h, lt-leb _ _ c.if-kinds-kind.false, eq-eqb _ _ c.if-terms-at.true)
 
 pub returns-then-bound_wrong : goal.returns-then-bound_wrong
 unfolding byte_at
 returns-then-bound_wrong c t h =
-    rw (count-wrong-here t _ _, ← h, lt-leb _ _ c.if-kinds-kind.false, ne_eqb _ _ c.if-terms-at-eq-OPEN.false, ← c.bound_wrong.ensures t h, c.if-bound_wrong.true)
+    rw (count-wrong-here t _ _, ← h, lt-leb _ _ c.if-kinds-kind.false, ne_eqb _ _ c.if-terms-at.false, ← c.bound_wrong.ensures t h, c.if-bound_wrong.true)
 
-pub returns-then-terms-at-eq-OPEN-2 : goal.returns-then-terms-at-eq-OPEN-2
+pub returns-then-terms-at-2 : goal.returns-then-terms-at-2
 unfolding byte_at
-returns-then-terms-at-eq-OPEN-2 c t h =
+returns-then-terms-at-2 c t h =
     let a = c.args in
-    let is_open : eqb (byte_at a.terms.now (a.at + 13)) 3 ≡ true = eq-eqb _ _ c.if-terms-at-eq-OPEN-2.true in
+    let is_open : eqb (byte_at a.terms.now (a.at + 13)) 3 ≡ true = eq-eqb _ _ c.if-terms-at-2.true in
     rw (
       count-wrong-here t _ _,
       ← h,
       lt-leb _ _ c.if-kinds-kind.false,
-      ne_eqb _ _ c.if-terms-at-eq-OPEN.false,
+      ne_eqb _ _ c.if-terms-at.false,
       ← c.bound_wrong.ensures t h,
       c.if-bound_wrong.false,
       is_open,
@@ -45,12 +45,12 @@ pub returns : goal.returns
 unfolding byte_at
 returns c t h =
     let a = c.args in
-    let not-open : eqb (byte_at a.terms.now (a.at + 13)) 3 ≡ false = ne_eqb _ _ c.if-terms-at-eq-OPEN-2.false in
+    let not-open : eqb (byte_at a.terms.now (a.at + 13)) 3 ≡ false = ne_eqb _ _ c.if-terms-at-2.false in
     rw (
       count-wrong-here t _ _,
       ← h,
       lt-leb _ _ c.if-kinds-kind.false,
-      ne_eqb _ _ c.if-terms-at-eq-OPEN.false,
+      ne_eqb _ _ c.if-terms-at.false,
       ← c.bound_wrong.ensures t h,
       c.if-bound_wrong.false,
       not-open,
