@@ -2,17 +2,23 @@
 --     happening-here, count-here                  what the items 03 and 08 stand for
 --     happening-wrong-here, count-wrong-here      refusal 3 of them
 --     count-as, happening-as, wrong-…             by the item's kind byte
+--     untyped                                     and of the type of an item 02, by its byte
 -- Assumes nothing.
-use Prim.Native.Nat.{ℕ, ◌+◌}
+use Prim.Native.Nat.{ℕ, zero, suc, ◌+◌}
 use native.Mathlib.Omega.{arith}
-use mathlib.Core.Path.{◌≡◌, sym, ◌∙◌}
+use mathlib.Core.Path.{◌≡◌, refl, sym, ◌∙◌}
 use mathlib.Core.Bool.{◌||◌}
 use mathlib.Core.List.{List}
 use mathlib.Core.Logic.{◌⊎◌, inl, inr}
 use mathlib.Core.Option.{Option, none, some, bind}
-use lib.Dec.{leb, eqb}
+use lib.Dec.{leb, ltb, eqb, eqb-suc-zero}
 use lib.ListN.{length, take, drop}
+use borrow.Author.Tests.{lt-ltb}
 use Rattle.std.specs.Prelude as std
+use Rattle.meaning.specs.declared.NormType.{NormType}
+use Rattle.meaning.specs.declared.NormType.TheVariants.{Commitment, Authorization, Prohibition, Power}
+use Rattle.meaning.specs.declared.NotANormType.{NotANormType}
+use Rattle.meaning.specs.NormTypes.{NormTypes}
 use Rattle.meaning.specs.declared.Atom.{Atom}
 use Rattle.meaning.specs.declared.Atom.TheVariants.{Happens, Counts}
 use Rattle.meaning.specs.Terms.{Terms}
@@ -100,3 +106,12 @@ module _ (terms : Terms) (s : List ℕ) (at : ℕ) where
       go : (item ≡ Leaf) ⊎ (item ≡ Count) → leaf_wrong terms (leaf_item s at item) ≡ happening_wrong terms (take 17 (drop at s))
       go (inl e) = rw e (let b : 3 ≡ byte_at s at = rw e at h.1 in rw (byte-first s at 17 (omega arith) ∙ sym b))
       go (inr e) = absurd (other e)
+
+-- a byte that names no norm type is 0, or past the last one
+pub untyped : (byte : ℕ) (r : std.Result NormType NotANormType) → NormTypes byte r → std.is_err r ≡ (eqb byte 0 || ltb 4 byte)
+untyped byte (std.Ok Commitment) h = rw (sym h)
+untyped byte (std.Ok Authorization) h = rw (sym h)
+untyped byte (std.Ok Prohibition) h = rw (sym h)
+untyped byte (std.Ok Power) h = rw (sym h)
+untyped zero (std.Err e) h = refl
+untyped (suc n) (std.Err e) h = rw (eqb-suc-zero n) (sym (lt-ltb 4 (suc n) (omega (arith, h.1 (omega arith)))))

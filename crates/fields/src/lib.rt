@@ -20,15 +20,6 @@ pub const OFFSET_LIMIT: u32 = 2147483647;
 // The form of an event that is a kind.
 pub const KIND_FORM: u8 = 0;
 
-// The norm types.
-pub const COMMITMENT: u8 = 1;
-
-pub const AUTHORIZATION: u8 = 2;
-
-pub const PROHIBITION: u8 = 3;
-
-pub const POWER: u8 = 4;
-
 // The signs of a bound.
 #[derive(Clone, Copy)]
 enum Sign {
@@ -238,12 +229,7 @@ pub fn expression_at(terms: &[u8], spot: Spot) -> Option<Expression>
 pub fn norm_type_of(byte: u8) -> NormType
     ensures { result ≡ norm_type_of byte }
 {
-    match byte {
-        COMMITMENT => NormType::Commitment,
-        AUTHORIZATION => NormType::Authorization,
-        PROHIBITION => NormType::Prohibition,
-        _ => NormType::Power,
-    }
+    NormType::try_from(byte).unwrap_or(NormType::Power)
 }
 
 // Refusal 3 at the item 01 with a number.
@@ -264,11 +250,7 @@ pub fn head_wrong(terms: &[u8], kinds: usize, at: usize) -> bool
     requires { (kinds ≡ length (file_of terms.now).kinds) × (at + 4 ≤ length terms.now) }
     ensures { result ≡ head_wrong (terms_of terms.now) (take 4 (drop at terms.now)) }
 {
-    let norm_type = terms[at];
-    if norm_type == 0 {
-        return true;
-    }
-    if POWER < norm_type {
+    if NormType::try_from(terms[at]).is_err() {
         return true;
     }
     let subject = terms[at + 1];

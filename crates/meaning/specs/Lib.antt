@@ -9,6 +9,7 @@
 pub mod Lists
 pub mod Time
 pub mod Stages
+pub mod NormTypes
 pub mod Terms
 pub mod Log
 pub mod Meaning

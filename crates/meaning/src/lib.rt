@@ -4,6 +4,7 @@
 ghost use Rattle.std.specs.Prelude.{◌≡◌, Some, ok_or};
 ghost use Rattle.meaning.specs.Time.{later_of, earlier_of};
 ghost use Rattle.meaning.specs.Stages.{stage_of, stage_number};
+ghost use Rattle.meaning.specs.NormTypes.{NormTypes};
 ghost use Rattle.meaning.specs.Meaning.{and_of, or_of, except_of};
 ghost use Rattle.meaning.specs.Rows.{entry};
 ghost use Rattle.meaning.specs.Text.{stage_name, row_text};
@@ -267,5 +268,26 @@ impl fmt::Display for Row {
             time,
         } = self;
         write!(f, "{stage} {schema} {key} {privileged} {liable} {time}")
+    }
+}
+
+// A byte that names no type of norm.
+#[derive(Clone, Copy, Debug, PartialEq, Eq)]
+pub struct NotANormType(pub u8);
+
+// The type of norm that a byte names.
+impl TryFrom<u8> for NormType {
+    type Error = NotANormType;
+
+    ghost try_from_gives = { NormTypes };
+
+    fn try_from(byte: u8) -> Result<NormType, NotANormType> {
+        match byte {
+            1 => Ok(NormType::Commitment),
+            2 => Ok(NormType::Authorization),
+            3 => Ok(NormType::Prohibition),
+            4 => Ok(NormType::Power),
+            _ => Err(NotANormType(byte)),
+        }
     }
 }
