@@ -1,4 +1,4 @@
--- A question asked over an expression as the code reads it: one lemma for each answer.
+-- A test of leaves over an expression as the code reads it: one lemma for each answer.
 --     stands_here, stands-item, stands-leaf an expression and its first item are within the bytes
 --     leaf-found, leaf-past, always-past    at a leaf, and at always
 --     stands-first, stands-second           the operands of a connective stand behind its byte
@@ -17,12 +17,10 @@ use Rattle.meaning.specs.Lists.{any_of}
 use Rattle.meaning.specs.Terms.{leaves}
 use Rattle.format.specs.Bytes.{byte_at}
 use Rattle.format.specs.Grammar.{size, read_expr}
-use Rattle.format.specs.Fields.{terms_of}
 use Rattle.meaning.proofs.ListLaws.{any_append}
 use Rattle.format.proofs.GrammarLaws.{E, Connective, size-positive, expr-read}
 use Rattle.format.proofs.ExprLaws.{Joins, joins, Parts, LeafItem, leaf-item, count-item, read-inside, read_none, leaf-is, always-is, join_is}
 use Rattle.grammar.specs.Found.{StandsExpr}
-use Rattle.terms.specs.declared.Question.{Question}
 use Rattle.std.specs.Prelude.{Option, Some, None}
 use mathlib.Core.Logic.{◌⊎◌, inl, inr}
 use Rattle.grammar.specs.declared.Item.{Item}
@@ -31,12 +29,12 @@ use Rattle.grammar.specs.declared.Spot.{Spot}
 use Rattle.grammar.specs.Items.{code_of, body_of}
 use Rattle.grammar.proofs.Steps.{Connects, connects-code}
 use Rattle.fields.specs.Decoded.{LeafAt, leaf_item}
-use Rattle.terms.specs.Questions.{asked_of_leaf, clause_has, WalkedOver, Walks}
+use Rattle.terms.specs.Questions.{clause_has, WalkedOver, Walks}
 
 -- a connective has what either operand has
-join-has : {kind : ℕ} {join : E → E → E} → Connective kind join → (s : List ℕ) (q : Question) (a b : E) → clause_has s q (join a b) ≡ (clause_has s q a || clause_has s q b)
+join-has : {kind : ℕ} {join : E → E → E} → Connective kind join → (q : List ℕ → Bool) (a b : E) → clause_has q (join a b) ≡ (clause_has q a || clause_has q b)
 unfolding clause_has
-join-has is s q a b = rw is.of-leaves (any_append (asked_of_leaf (terms_of s) q) (leaves a) (leaves b))
+join-has is q a b = rw is.of-leaves (any_append q (leaves a) (leaves b))
 
 -- the item of a leaf
 as-leaf : {item : Item} → (item ≡ Leaf) ⊎ (item ≡ Count) → LeafItem (code_of item) (body_of item)
@@ -56,30 +54,30 @@ module _ (s : List ℕ) (at items : ℕ) (w : StandsExpr s at items) where
   pub stands-leaf : {item : Item} → (item ≡ Leaf) ⊎ (item ≡ Count) → code_of item ≡ byte_at s at → LeafAt s at item
   stands-leaf is e = (is, e, (leaf-is items items s at w.0 w.1 w.2 (as-leaf is) (sym e)).2)
 
-module _ (s : List ℕ) (q : Question) (at items : ℕ) where
-  module _ {item : Item} (is : LeafAt s at item) {b : Bool} (h : b ≡ asked_of_leaf (terms_of s) q (leaf_item s at item)) where
-    -- a leaf that has it
-    pub leaf-found : b ≡ true → Walks s q at items None
+module _ (s : List ℕ) (P : (List ℕ → Bool) → Type 0) (at items : ℕ) where
+  module _ {item : Item} (is : LeafAt s at item) {b : Bool} (h : (q : List ℕ → Bool) → P q → b ≡ q (leaf_item s at item)) where
+    -- a leaf that passes it
+    pub leaf-found : b ≡ true → Walks s P at items None
     unfolding clause_has leaves any_of
-    leaf-found b x t found = rw ((leaf-is items items s at x t found (as-leaf is.0) (sym is.1)).0, ← h, b)
+    leaf-found b x t found q asks = rw ((leaf-is items items s at x t found (as-leaf is.0) (sym is.1)).0, ← h q asks, b)
 
-    -- a leaf that has it not
-    pub leaf-past : b ≡ false → Walks s q at items (Some (record { at = at + 1 + body_of item; items = items - 1 }))
+    -- a leaf that fails it
+    pub leaf-past : b ≡ false → Walks s P at items (Some (record { at = at + 1 + body_of item; items = items - 1 }))
     unfolding clause_has leaves any_of size
     leaf-past b x t found =
         let l = leaf-is items items s at x t found (as-leaf is.0) (sym is.1) in
         let one : size x ≡ 1 = ap size l.0 in
         let end : at + suc (body_of item) ≡ at + 1 + body_of item = omega arith in
-        (rw (l.0, ← h, b), rw (← end) l.1, omega (arith, is.2), omega (arith, (expr-read items items (drop at s) x t found).1))
+        (λ q asks. rw (l.0, ← h q asks, b), rw (← end) l.1, omega (arith, is.2), omega (arith, (expr-read items items (drop at s) x t found).1))
 
   -- always: of the items that can be read, what is neither a leaf nor a connective
   pub always-past : {item : Item} → (item ≡ Always) ⊎ ((item ≡ Kind) ⊎ (item ≡ Schema)) → code_of item ≡ byte_at s at → at < length s
-      → Walks s q at items (Some (record { at = at + 1; items = items - 1 }))
+      → Walks s P at items (Some (record { at = at + 1; items = items - 1 }))
   unfolding clause_has leaves any_of size
   always-past {item} is e inside x t found =
       let l = always-is items items s at x t found (λ low high. low-code is low high) (λ f. no-count is f) in
       let one : size x ≡ 1 = ap size l.0 in
-      (rw l.0, l.1, omega arith, omega (arith, (expr-read items items (drop at s) x t found).1))
+      (λ q asks. rw l.0, l.1, omega arith, omega (arith, (expr-read items items (drop at s) x t found).1))
     where
       low-code : (item ≡ Always) ⊎ ((item ≡ Kind) ⊎ (item ≡ Schema)) → 3 ≤ byte_at s at → byte_at s at ≤ 6 → ⊥
       low-code (inl g) low high = let f : 7 ≡ byte_at s at = rw g at e in omega arith
@@ -105,19 +103,19 @@ module _ (s : List ℕ) (q : Question) (at items : ℕ) where
     stands-first w = let p = parts w.0 w.1 w.2 in (p.a, p.u, p.first)
 
     -- the first has it
-    pub first_found : Walks s q (at + 1) (items - 1) None → Walks s q at items None
-    first_found walks x t found =
+    pub first_found : Walks s P (at + 1) (items - 1) None → Walks s P at items None
+    first_found walks x t found q asks =
         let p = parts x t found in
-        let has : clause_has s q p.a ≡ true = walks p.a p.u p.first in
-        rw (p.is, join-has j.is.is s q p.a p.b, has)
+        let has : clause_has q p.a ≡ true = walks p.a p.u p.first q asks in
+        rw (p.is, join-has j.is.is q p.a p.b, has)
 
-    module _ (second : Spot) (walks : Walks s q (at + 1) (items - 1) (Some second)) where
+    module _ (second : Spot) (walks : Walks s P (at + 1) (items - 1) (Some second)) where
       -- what the first leaves
       behind : (x : E) (t : List ℕ) (found : read_expr items items (drop at s) ≡ some (x, t)) → let p = parts x t found in
-          (clause_has s q p.a ≡ false) × (read_expr second.items second.items (drop second.at s) ≡ some (p.b, t)) × (size p.a + second.items ≡ items - 1)
+          ((q : List ℕ → Bool) → P q → clause_has q p.a ≡ false) × (read_expr second.items second.items (drop second.at s) ≡ some (p.b, t)) × (size p.a + second.items ≡ items - 1)
       behind x t found =
           let p = parts x t found in
-          let w : WalkedOver s q (items - 1) p.a p.u (Some second) = walks p.a p.u p.first in
+          let w : WalkedOver s P (items - 1) p.a p.u (Some second) = walks p.a p.u p.first in
           let rest : items - 1 - size p.a ≡ second.items = omega arith in
           (w.0, rw (← rest, ← w.1) p.second, w.3)
 
@@ -130,19 +128,19 @@ module _ (s : List ℕ) (q : Question) (at items : ℕ) where
       first-falls w = omega (arith, (behind w.0 w.1 w.2).2, (expr-read items items (drop at s) w.0 w.1 w.2).1, size-positive w.0)
 
       -- what is found in the second
-      pub second_walks : (r : Option Spot) → Walks s q second.at second.items r → Walks s q at items r
+      pub second_walks : (r : Option Spot) → Walks s P second.at second.items r → Walks s P at items r
       second_walks r f x t found = go r (f p.b t l.1)
         where
           p : Parts j.join items s at x t
           p = parts x t found
 
-          l : (clause_has s q p.a ≡ false) × (read_expr second.items second.items (drop second.at s) ≡ some (p.b, t)) × (size p.a + second.items ≡ items - 1)
+          l : ((q : List ℕ → Bool) → P q → clause_has q p.a ≡ false) × (read_expr second.items second.items (drop second.at s) ≡ some (p.b, t)) × (size p.a + second.items ≡ items - 1)
           l = behind x t found
 
-          same : clause_has s q x ≡ clause_has s q p.b
-          same = ap (clause_has s q) p.is ∙ join-has j.is.is s q p.a p.b ∙ ap (λ (b : Bool). b || clause_has s q p.b) l.0
+          same : (q : List ℕ → Bool) → P q → clause_has q x ≡ clause_has q p.b
+          same q asks = ap (clause_has q) p.is ∙ join-has j.is.is q p.a p.b ∙ ap (λ (b : Bool). b || clause_has q p.b) (l.0 q asks)
 
-          go : (r : Option Spot) → WalkedOver s q second.items p.b t r → WalkedOver s q items x t r
-          go None h = same ∙ h
+          go : (r : Option Spot) → WalkedOver s P second.items p.b t r → WalkedOver s P items x t r
+          go None h = λ q asks. same q asks ∙ h q asks
           go (Some end) h =
-              (same ∙ h.0, h.1, h.2, omega (arith, l.2, ap size p.is, j.is.is.items p.a p.b, (expr-read items items (drop at s) x t found).1))
+              (λ q asks. same q asks ∙ h.0 q asks, h.1, h.2, omega (arith, l.2, ap size p.is, j.is.is.items p.a p.b, (expr-read items items (drop at s) x t found).1))

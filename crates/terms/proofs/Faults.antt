@@ -17,14 +17,13 @@ use lib.Seq.{length-take-le, get_or-take}
 use Rattle.meaning.specs.Lists.{numbers_from, is_empty, any_of}
 use Rattle.meaning.specs.Terms.{Expr, schema_at}
 use Rattle.format.specs.Grammar.{schemas_limit, file_of, breaks_grammar}
-use Rattle.format.specs.Fields.{expr_from, schema_from, terms_from, head_wrong, kind_wrong, schema_wrong, kinds_wrong, field_wrong, any_event, cites_from, shares_none, cites_too_high, citation_wrong, unshared_in, unshared_event, terms_of}
+use Rattle.format.specs.Fields.{expr_from, schema_from, terms_from, head_wrong, leaf_wrong, kind_wrong, schema_wrong, kinds_wrong, field_wrong, any_event, cites_from, shares_none, cites_too_high, citation_wrong, unshared_in, unshared_event, terms_of}
 use Rattle.format.proofs.GrammarLaws.{file-read}
 use Rattle.format.proofs.PlaceLaws.{left_over}
 use Rattle.format.proofs.ExprLaws.{any-event}
 use Rattle.grammar.specs.declared.Layout.{Layout}
 use Rattle.grammar.specs.Places.{no_items, Placed, LaidOut}
-use Rattle.terms.specs.declared.Question.TheVariants.{OutOfRange, CitesFrom, SharesNone}
-use Rattle.terms.specs.Questions.{asked_of_leaf, clause_has, clauses_have}
+use Rattle.terms.specs.Questions.{leaf_cites, leaf_unshared, clause_has, clauses_have}
 use Rattle.terms.proofs.Steps.{schema-here}
 
 -- a test of a list's elements, by their numbers from k on
@@ -73,29 +72,28 @@ module _ (s : List ℕ) where
   unshared-faults = rw (← schemas_count) (any-numbers _ _ (terms_of s).schemas)
 
   -- what is asked for 4 and 5, of a clause's items
-  clause-cites : (k : ℕ) (x : Expr (List ℕ)) → clause_has s (CitesFrom k) x ≡ any_event (cites_from k) (expr_from x)
-  unfolding clause_has asked_of_leaf
+  clause-cites : (k : ℕ) (x : Expr (List ℕ)) → clause_has (leaf_cites k) x ≡ any_event (cites_from k) (expr_from x)
+  unfolding clause_has leaf_cites
   clause-cites k x = sym (any-event (cites_from k) x)
 
-  clause-shares : (subject : ℕ) (x : Expr (List ℕ)) → clause_has s (SharesNone subject) x ≡ any_event (shares_none (terms_of s) subject) (expr_from x)
-  unfolding clause_has asked_of_leaf
+  clause-shares : (subject : ℕ) (x : Expr (List ℕ)) → clause_has (leaf_unshared (terms_of s) subject) x ≡ any_event (shares_none (terms_of s) subject) (expr_from x)
+  unfolding clause_has leaf_unshared
   clause-shares subject x = sym (any-event (shares_none (terms_of s) subject) x)
 
   module _ (n : ℕ) where
     -- refusal 3 at a schema: at its head, or at a leaf
-    pub field-here : field-fault n ≡ (head_wrong (terms_of s) (get_or (file_of s).schemas n no_items).head || clauses_have s OutOfRange OutOfRange OutOfRange n)
-    unfolding schema_wrong clauses_have clause_has asked_of_leaf
+    pub field-here : field-fault n ≡ (head_wrong (terms_of s) (get_or (file_of s).schemas n no_items).head || clauses_have s (λ rank. leaf_wrong (terms_of s)) n)
+    unfolding schema_wrong clauses_have clause_has
     field-here = simp or_assoc
 
     module _ (h : n < length (file_of s).schemas) where
       -- refusal 4
-      pub citation-here : cites_too_high (terms_of s) n
-          ≡ clauses_have s (CitesFrom (3 * n)) (CitesFrom (3 * n + 1)) (CitesFrom (3 * n + 2)) n
+      pub citation-here : cites_too_high (terms_of s) n ≡ clauses_have s leaf_cites n
       unfolding cites_too_high schema_from clauses_have
       citation-here = rw (schema-here s n h) (simp clause-cites)
 
       -- refusal 5
-      pub unshared-here : unshared-fault n ≡ (let q = SharesNone (schema_at (terms_of s) n).subject in clauses_have s q q q n)
+      pub unshared-here : unshared-fault n ≡ clauses_have s (λ rank. leaf_unshared (terms_of s) (schema_at (terms_of s) n).subject) n
       unfolding unshared_in schema_from clauses_have
       unshared-here = rw (schema-here s n h) (simp clause-shares)
 

@@ -12,7 +12,7 @@ ghost use Rattle.calls.specs.Calls.{check_terms};
 ghost use Rattle.grammar.specs.Found.{StandsExpr};
 ghost use Rattle.grammar.specs.Places.{no_items, Placed, LaidOut};
 ghost use Rattle.fields.specs.Decoded.{LeafAt, leaf_item};
-ghost use Rattle.terms.specs.Questions.{asked_of_leaf, clause_has, Walks, clauses_have, ClauseAt};
+ghost use Rattle.terms.specs.Questions.{leaf_cites, leaf_unshared, MayAsk, Asks, clause_has, Walks, clauses_have, ClauseAt, PlacedClauses};
 
 use calls::Refusal;
 use fields::mask_of;
@@ -21,15 +21,6 @@ use meaning::{Atom, Bound, Event, Stage};
 
 // The most bytes of terms.
 pub const TERMS_LIMIT: usize = 16384;
-
-// What may be asked of a leaf: whether a field is out of range; whether some event of it cites a stage that does not rank below a clause; whether
-// the kind of some event shares nothing with the subject kind.
-#[derive(Clone, Copy)]
-pub enum Question {
-    OutOfRange,
-    CitesFrom(usize),
-    SharesNone(u8),
-}
 
 // The rank of a stage: that of the last clause on which it depends.
 #[tactic(auto, unfolding(meaning::specs::Terms::rank))]
@@ -137,49 +128,49 @@ fn some_event_has<F: Fn(Event) -> bool>(leaf: Atom, test: &F) -> bool
     }
 }
 
-// A question about the leaf whose item, 03 or 08, starts at a place.
-fn leaf_has(
+// Whether some event of the leaf whose item, 03 or 08, starts at a place cites a stage that does not rank below a clause.
+fn leaf_cites(terms: &[u8], rank: usize, at: usize, item: Item) -> bool
+    requires { LeafAt terms.now at item }
+    ensures { result ≡ leaf_cites rank (leaf_item terms.now at item) }
+{
+    let leaf = fields::leaf_at(terms, at, item);
+    some_event_has(leaf, &|event| cites_from(rank, event))
+}
+
+// Whether the kind of some event of that leaf shares nothing with the subject kind.
+fn leaf_unshared(
     terms: &[u8],
     kinds: usize,
     starts: &[usize],
-    question: Question,
+    subject: u8,
     at: usize,
     item: Item,
 ) -> bool
     requires { Placed terms.now kinds starts.now × LeafAt terms.now at item }
-    ensures { result ≡ asked_of_leaf (terms_of terms.now) question (leaf_item terms.now at item) }
+    ensures { result ≡ leaf_unshared (terms_of terms.now) subject (leaf_item terms.now at item) }
 {
-    match question {
-        Question::OutOfRange => fields::leaf_wrong(terms, kinds, at, item),
-        Question::CitesFrom(k) => {
-            let leaf = fields::leaf_at(terms, at, item);
-            some_event_has(leaf, &|event| cites_from(k, event))
-        }
-        Question::SharesNone(subject) => {
-            let leaf = fields::leaf_at(terms, at, item);
-            some_event_has(
-                leaf,
-                &|event| shares_none(terms, kinds, starts, subject, event),
-            )
-        }
-    }
+    let leaf = fields::leaf_at(terms, at, item);
+    some_event_has(
+        leaf,
+        &|event| shares_none(terms, kinds, starts, subject, event),
+    )
 }
 
-// A question about some leaf of an expression: none, if a leaf has it; or else where the expression ends, and how many items are left.
-fn expression_has(
+// Whether some leaf of an expression passes a test of its clause's rank, its place and its item: none, if one does; or else where the expression
+// ends, and how many items are left.
+fn expression_has<F: Fn(usize, usize, Item) -> bool>(
     terms: &[u8],
-    kinds: usize,
-    starts: &[usize],
-    question: Question,
+    rank: usize,
     spot: Spot,
+    test: &F,
 ) -> Option<Spot>
-    requires { Placed terms.now kinds starts.now × StandsExpr terms.now spot.at spot.items }
-    ensures { Walks terms.now question spot.at spot.items result }
+    requires { StandsExpr terms.now spot.at spot.items × MayAsk terms.now (F.pre test.now rank) }
+    ensures { Walks terms.now (Asks terms.now (F.post test.now rank)) spot.at spot.items result }
 {
     let item = item_at(terms, spot.at)?;
     match item {
         Item::Leaf | Item::Count => {
-            if leaf_has(terms, kinds, starts, question, spot.at, item) {
+            if test(rank, spot.at, item) {
                 return None;
             }
             Some(Spot {
@@ -192,8 +183,8 @@ fn expression_has(
                 at: spot.at + 1,
                 items: spot.items - 1,
             };
-            let second = expression_has(terms, kinds, starts, question, first)?;
-            expression_has(terms, kinds, starts, question, second)
+            let second = expression_has(terms, rank, first, test)?;
+            expression_has(terms, rank, second, test)
         }
         Item::Always | Item::Kind | Item::Schema => Some(Spot {
             at: spot.at + 1,
@@ -202,38 +193,42 @@ fn expression_has(
     }
 }
 
-// A question about some leaf of the clause at a place.
-fn clause_has(terms: &[u8], kinds: usize, starts: &[usize], question: Question, at: usize) -> bool
-    requires { Placed terms.now kinds starts.now × ((x : Expr (List ℕ)) × ClauseAt terms.now at x) }
-    ensures { (x : Expr (List ℕ)) → ClauseAt terms.now at x → result ≡ clause_has terms.now question x }
+// Whether some leaf of the clause of a rank passes a test.
+fn clause_has<F: Fn(usize, usize, Item) -> bool>(
+    terms: &[u8],
+    starts: &[usize],
+    rank: usize,
+    test: &F,
+) -> bool
+    requires clause { (rank < length starts.now) × ((x : Expr (List ℕ)) × ClauseAt terms.now (get_or starts.now rank 0) x) }
+    requires test { MayAsk terms.now (F.pre test.now rank) }
+    ensures { (p : List ℕ → Bool) → Asks terms.now (F.post test.now rank) p → (x : Expr (List ℕ)) → ClauseAt terms.now (get_or starts.now rank 0) x → result ≡ clause_has p x }
 {
     let clause = Spot {
-        at,
+        at: starts[rank],
         items: EXPRESSION_LIMIT,
     };
-    expression_has(terms, kinds, starts, question, clause).is_none()
+    expression_has(terms, rank, clause, test).is_none()
 }
 
-// A question about some leaf of each clause of the schema with a number.
-fn clauses_have(
+// Whether some leaf of the schema with a number passes a test: its clauses rank 3n, 3n + 1 and 3n + 2.
+fn clauses_have<F: Fn(usize, usize, Item) -> bool>(
     terms: &[u8],
-    kinds: usize,
     starts: &[usize],
-    create: Question,
-    detach: Question,
-    consequent: Question,
     n: usize,
+    test: &F,
 ) -> bool
-    requires { Placed terms.now kinds starts.now × (3 * n < length starts.now) }
-    ensures { result ≡ clauses_have terms.now create detach consequent n }
+    requires placed { PlacedClauses terms.now starts.now × (3 * n < length starts.now) }
+    requires test { (rank : ℕ) → rank < length starts.now → MayAsk terms.now (F.pre test.now rank) }
+    ensures { (p : ℕ → List ℕ → Bool) → ((rank : ℕ) → rank < length starts.now → Asks terms.now (F.post test.now rank) (p rank)) → result ≡ clauses_have terms.now p n }
 {
-    if clause_has(terms, kinds, starts, create, starts[3 * n]) {
+    if clause_has(terms, starts, 3 * n, test) {
         return true;
     }
-    if clause_has(terms, kinds, starts, detach, starts[3 * n + 1]) {
+    if clause_has(terms, starts, 3 * n + 1, test) {
         return true;
     }
-    clause_has(terms, kinds, starts, consequent, starts[3 * n + 2])
+    clause_has(terms, starts, 3 * n + 2, test)
 }
 
 // Refusal 3 at the schema with a number.
@@ -244,19 +239,25 @@ fn schema_wrong(terms: &[u8], kinds: usize, starts: &[usize], n: usize) -> bool
     if fields::head_wrong(terms, kinds, head_at(starts, n)) {
         return true;
     }
-    let question = Question::OutOfRange;
-    clauses_have(terms, kinds, starts, question, question, question, n)
+    clauses_have(
+        terms,
+        starts,
+        n,
+        &|_, at, item| fields::leaf_wrong(terms, kinds, at, item),
+    )
 }
 
-// Refusal 4 at the schema with a number: its clauses rank 3n, 3n + 1 and 3n + 2.
-fn schema_cites(terms: &[u8], kinds: usize, starts: &[usize], n: usize) -> bool
-    requires { Placed terms.now kinds starts.now × (3 * n < length starts.now) }
+// Refusal 4 at the schema with a number.
+fn schema_cites(terms: &[u8], starts: &[usize], n: usize) -> bool
+    requires { PlacedClauses terms.now starts.now × (3 * n < length starts.now) }
     ensures { result ≡ cites_too_high (terms_of terms.now) n }
 {
-    let create = Question::CitesFrom(3 * n);
-    let detach = Question::CitesFrom(3 * n + 1);
-    let consequent = Question::CitesFrom(3 * n + 2);
-    clauses_have(terms, kinds, starts, create, detach, consequent, n)
+    clauses_have(
+        terms,
+        starts,
+        n,
+        &|rank, at, item| leaf_cites(terms, rank, at, item),
+    )
 }
 
 // Refusal 5 at the schema with a number.
@@ -265,8 +266,12 @@ fn schema_unshared(terms: &[u8], kinds: usize, starts: &[usize], n: usize) -> bo
     ensures { result ≡ unshared_in (terms_of terms.now) (schema_at (terms_of terms.now) n) }
 {
     let subject = subject_of(terms, kinds, starts, n);
-    let question = Question::SharesNone(subject);
-    clauses_have(terms, kinds, starts, question, question, question, n)
+    clauses_have(
+        terms,
+        starts,
+        n,
+        &|_, at, item| leaf_unshared(terms, kinds, starts, subject, at, item),
+    )
 }
 
 // Whether some number below a limit passes a test.
@@ -322,7 +327,7 @@ pub fn check_terms_under(terms: &[u8], layout: Layout) -> Result<(), Refusal>
     if field_wrong(terms, kinds, starts) {
         return Err(Refusal::FieldOutOfRange);
     }
-    if some_below(layout.schemas, |n| schema_cites(terms, kinds, starts, n)) {
+    if some_below(layout.schemas, |n| schema_cites(terms, starts, n)) {
         return Err(Refusal::CitationTooHigh);
     }
     if some_below(layout.schemas, |n| schema_unshared(terms, kinds, starts, n)) {

@@ -2,4 +2,4 @@
 use Rattle.terms.proofs.+expression_has.Given as goal
 
 abbrev pub decreases-expression_has : goal.decreases-expression_has
-decreases-expression_has l = l.spot.items
+decreases-expression_has g l = l.spot.items

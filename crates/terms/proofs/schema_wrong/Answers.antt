@@ -2,8 +2,10 @@
 use native.Mathlib.Omega.{arith}
 use mathlib.Core.Path.{◌≡◌, sym, ◌∙◌}
 use lib.ListN.{get_or}
+use borrow.Author.Rules.{rules}
 use Rattle.format.specs.Grammar.{file_of}
-use Rattle.format.specs.Fields.{head_wrong, terms_of}
+use Rattle.format.specs.Fields.{head_wrong, leaf_wrong, terms_of}
+use Rattle.format.proofs.KindLaws.{kinds_count}
 use Rattle.grammar.specs.Places.{no_items}
 use Rattle.terms.proofs.Faults.{field-here}
 use Rattle.terms.proofs.schema_wrong.Goals.{After-head_wrong}
@@ -23,4 +25,8 @@ pub returns-then-head_wrong : goal.returns-then-head_wrong
 returns-then-head_wrong c = rw (field-here, head-is (goal.at.returns-then-head_wrong c).After-head_wrong ∙ c.if-head_wrong.true)
 
 pub returns : goal.returns
-returns c = rw (field-here, head-is (goal.at.returns c).After-head_wrong ∙ c.if-head_wrong.false) c.clauses_have.ensures
+returns c =
+    let s = c.args.terms.now in
+    let count = c.requires.0.0 ∙ sym (kinds_count s) in
+    rw (field-here, head-is (goal.at.returns c).After-head_wrong ∙ c.if-head_wrong.false)
+    (c.clauses_have.ensures (λ rank. leaf_wrong (terms_of s)) (λ rank h at item b is post. search rules))
