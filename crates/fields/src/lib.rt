@@ -171,11 +171,10 @@ pub fn leaf_at(terms: &[u8], at: usize, item: Item) -> Atom
     requires { LeafAt terms.now at item }
     ensures { result ≡ leaf_from (leaf_item terms.now at item) }
 {
-    let leaf = match item {
-        Item::Count => count_at(terms, at),
-        _ => happening_at(terms, at),
-    };
-    leaf.unwrap_or(no_leaf())
+    match item {
+        Item::Count => count_at(terms, at).unwrap_or(no_leaf()),
+        _ => happening_at(terms, at).unwrap_or(no_leaf()),
+    }
 }
 
 // The operands of the connective at a place: both are read.

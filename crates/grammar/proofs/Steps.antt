@@ -70,6 +70,12 @@ connects-code {b = b} (inl e) h = let f : 4 ≡ b = rw e at h in (omega arith, o
 connects-code {b = b} (inr (inl e)) h = let f : 5 ≡ b = rw e at h in (omega arith, omega arith)
 connects-code {b = b} (inr (inr e)) h = let f : 6 ≡ b = rw e at h in (omega arith, omega arith)
 
+-- and of those that end one
+pub ends-code : {k : Item} {b : ℕ} → Ends k → code_of k ≡ b → 1 ≤ b
+ends-code {b = b} (inl e) h = let f : 3 ≡ b = rw e at h in omega arith
+ends-code {b = b} (inr (inl e)) h = let f : 7 ≡ b = rw e at h in omega arith
+ends-code {b = b} (inr (inr e)) h = let f : 8 ≡ b = rw e at h in omega arith
+
 -- what the reader of expressions promises, whatever depth the model's is allowed
 abbrev Reads : ℕ → List ℕ → ℕ → Option Spot → Type 0
 Reads items s at r = (n : ℕ) → items ≤ n → FoundExpr n items s at r

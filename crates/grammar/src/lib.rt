@@ -122,14 +122,26 @@ pub fn item_at(s: &[u8], at: usize) -> Option<Item>
     Item::try_from(byte_at(s, at)).ok()
 }
 
-// The end of an item of a kind, whatever its body holds.
+// The end of an item whose kind byte stands at a place, whatever its body holds.
+fn item_end(s: &[u8], at: usize, kind: Item) -> Option<usize>
+    requires { (at < length s.now) × (code_of kind ≡ byte_at s.now at) }
+    ensures { Found (item (code_of kind) (body_of kind)) s.now at result }
+{
+    let body = kind.body();
+    if s.len() - at - 1 < body {
+        return None;
+    }
+    Some(at + 1 + body)
+}
+
+// The end of an item of a kind, if it stands at a place.
 fn read_item(s: &[u8], at: usize, kind: Item) -> Option<usize>
     ensures { Found (item (code_of kind) (body_of kind)) s.now at result }
 {
-    if s.len() <= at || s[at] != kind as u8 || s.len() - at - 1 < kind.body() {
+    if s.len() <= at || s[at] != kind as u8 {
         return None;
     }
-    Some(at + 1 + kind.body())
+    item_end(s, at, kind)
 }
 
 // An expression: a leaf, a count, always, or a connective and its two operands.
@@ -140,7 +152,7 @@ pub fn read_expression(s: &[u8], spot: Spot) -> Option<Spot>
     let item = item_at(s, spot.at)?;
     match item {
         Item::Leaf | Item::Always | Item::Count => {
-            let at = read_item(s, spot.at, item)?;
+            let at = item_end(s, spot.at, item)?;
             Some(Spot { at, items })
         }
         Item::And | Item::Or | Item::Except => {

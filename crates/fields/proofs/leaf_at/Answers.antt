@@ -1,7 +1,10 @@
 -- `leaf_at` meets its contract, by the kind of leaf. Assumes nothing.
 use Rattle.fields.proofs.Leaves.{count-as, happening-as}
-use Rattle.fields.proofs.leaf_at.Goals.{in-Count, in_default}
 use Rattle.fields.proofs.leaf_at.Goals as goal
 
-pub returns : goal.returns
-returns c = rw (c.unwrap_or.ensures, c.no_leaf.ensures) (elim c.match-item.branch [ in-Count w ↦ rw w.leaf-is (count-as _ _ _ c.requires w.in-Count.is w.count_at-leaf.ensures) | in_default w ↦ rw w.leaf-is (happening-as _ _ _ c.requires w.in_default.not-Count w.happening_at-leaf.ensures) ])
+pub returns-in-Count : goal.returns-in-Count
+returns-in-Count c = rw (c.unwrap_or.ensures, c.no_leaf.ensures) (count-as _ _ _ c.requires c.in-Count.is c.count_at.ensures)
+
+pub returns-in_default : goal.returns-in_default
+returns-in_default c =
+    rw (c.unwrap_or-in_default.ensures, c.no_leaf-in_default.ensures) (happening-as _ _ _ c.requires c.in_default.not-Count c.happening_at.ensures)

@@ -1,7 +1,7 @@
 -- `read_expression` meets its contract: one step for each answer; the items fall at each call. Assumes nothing.
 use native.Mathlib.Omega.{arith}
 use Rattle.format.proofs.PlaceLaws.{byte_inside}
-use Rattle.grammar.proofs.Steps.{connects-code, expr-no-items, expr-no-kind, expr-head, expr-cut, expr-end, expr-no-first, expr-both}
+use Rattle.grammar.proofs.Steps.{connects-code, ends-code, expr-no-items, expr-no-kind, expr-head, expr-cut, expr-end, expr-no-first, expr-both}
 use Rattle.grammar.proofs.+read_expression.Goals as goal
 
 pub returns-in_err-items : goal.returns-in_err-items
@@ -13,6 +13,11 @@ pub returns-in_err-item : goal.returns-in_err-item
 returns-in_err-item t c =
     let a = c.args in
     rw c.from_residual-in_err-item.ensures (expr-no-kind a.spot.items a.s.now a.spot.at (λ low high. c.in_err-item.ensures (omega arith) high))
+
+pub item_end-requires : goal.item_end-requires
+item_end-requires t c =
+    let a = c.args in
+    (byte_inside a.s.now a.spot.at (ends-code c.in-Leaf.is c.in_ok-item.ensures), c.in_ok-item.ensures)
 
 pub returns-in_err-at-in-Leaf : goal.returns-in_err-at-in-Leaf
 returns-in_err-at-in-Leaf t c =

@@ -4,12 +4,12 @@ use mathlib.Core.Path.{◌≡◌, refl, sym, ◌∙◌}
 use Prim.Native.Nat.{◌+◌}
 use denote.Enum.Declared.{tag_of}
 use Rattle.format.specs.Bytes.{byte_at}
-use Rattle.format.proofs.PlaceLaws.{item-here, item-past, item-other, item-short}
+use Rattle.format.proofs.PlaceLaws.{item-past, item-other}
 use Rattle.grammar.specs.contracts.Item.{the_type}
 use Rattle.grammar.specs.declared.Item.{Item}
 use Rattle.grammar.specs.declared.Item.TheVariants.{Kind, Schema, Leaf, And, Or, Except, Always, Count}
 use Rattle.grammar.specs.Items.{code_of}
-use Rattle.grammar.proofs.read_item.Goals.{then-s-at-via-then-s-at, then-s-at-via-else-s-at+then-s-at-2, then-s-at-via-else-s-at+else-s-at-2+then-s-at-3}
+use Rattle.grammar.proofs.read_item.Goals.{then-s-at-via-then-s-at, then-s-at-via-else-s-at+then-s-at-2}
 use Rattle.grammar.proofs.read_item.Goals as goal
 
 -- the kind byte, as the code takes it of the item
@@ -30,11 +30,11 @@ returns-then-s-at c =
     elim c.then-s-at.branch [
       | then-s-at-via-then-s-at w ↦ item-past _ _ a.s.now a.at (omega arith)
       | then-s-at-via-else-s-at+then-s-at-2 w ↦ item-other _ _ a.s.now a.at (λ e. w.if-s-at-2.true (e ∙ sym (code-is a.kind)))
-      | then-s-at-via-else-s-at+else-s-at-2+then-s-at-3 w ↦ item-short _ _ a.s.now a.at (omega (arith, w.body.ensures))
     ]
 
-pub returns : goal.returns
+pub item_end-requires : goal.item_end-requires
 unfolding byte_at
-returns c =
-    let a = c.args in
-    rw c.body-2.ensures (_, item-here _ _ a.s.now a.at (c.if-s-at-2.false ∙ code-is a.kind) (omega arith), omega arith, omega arith)
+item_end-requires c = (c.if-s-at.false, sym (c.if-s-at-2.false ∙ code-is c.args.kind))
+
+pub returns : goal.returns
+returns c = c.item_end.ensures
