@@ -40,6 +40,7 @@ struct Agreement {
 }
 
 // The five entries of a subject. Each clause is worked out once for all five.
+#[tactic(auto, unfolding(format::specs::Grammar::schemas_limit))]
 pub(crate) fn entries_of(terms: &[u8], log: &[u8], table: &[u16], asked: Asked) -> Entries
     requires ready { Ready terms.now log.now table.now }
     requires schema_in_bounds { asked.schema < length (file_of terms.now).schemas }
@@ -69,6 +70,7 @@ pub(crate) fn entries_of(terms: &[u8], log: &[u8], table: &[u16], asked: Asked) 
 }
 
 // How many rows an entry has.
+#[tactic(auto, unfolding(meaning::specs::Rows::row_at))]
 fn row_count(entry: Time) -> usize
     ensures { ((f : ℕ → Row) → result ≡ length (row_at f entry)) × (result ≤ 1) }
 {
@@ -147,6 +149,7 @@ fn rows_at_most(terms: &[u8], log: &[u8], table: &[u16]) -> usize
 }
 
 // Whether a page is too short for the rows of a report. They are counted only where the upper bound does not fit.
+#[tactic(auto, unfolding(format::specs::Grammar::schemas_limit, format::specs::Records::row_length))]
 pub(crate) fn too_short(terms: &[u8], log: &[u8], table: &[u16], moment: u32, page: &[u8]) -> bool
     requires { Ready terms.now log.now table.now }
     ensures { result ≡ ltb (length page.now) (row_length value_width * length (schemas_from terms.now log.now moment 0)) }
@@ -187,6 +190,7 @@ fn put_u32(page: &mut [u8], at: usize, n: u32)
 }
 
 // Puts a row on the page.
+#[tactic(auto, unfolding(format::specs::Records::row_length))]
 fn put_row(page: &mut [u8], at: usize, row: Row)
     requires { at + row_length value_width ≤ length page.old }
     ensures { page.new ≡ written page.old at (row_bytes value_width row) }
@@ -200,6 +204,7 @@ fn put_row(page: &mut [u8], at: usize, row: Row)
 }
 
 // Writes the row of an entry, if it has one. The place after it.
+#[tactic(auto, unfolding(format::specs::Records::row_length))]
 fn write_entry(page: &mut [u8], to: usize, agreement: Agreement, stage: Stage, entry: Time) -> usize
     requires { to + row_length value_width * length (row_at (row_by agreement stage) entry) ≤ length page.old }
     ensures { (result ≡ to + row_length value_width * length (row_at (row_by agreement stage) entry)) × (page.new ≡ with_rows page.old to (row_at (row_by agreement stage) entry)) }

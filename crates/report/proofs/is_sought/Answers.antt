@@ -22,9 +22,6 @@ returns-then-log-at c =
     let a = c.args in
     sym (sought-other a.terms.now a.log.now a.schema a.key a.moment a.at (λ e. c.if-log-at.true (e ∙ sym c.subject_of.ensures)))
 
-pub key_at-requires : goal.key_at-requires
-key_at-requires c = record { kinds = c.requires.read.0; stands = c.requires.stands }
-
 pub returns-then-key_at-key : goal.returns-then-key_at-key
 returns-then-key_at-key c =
     let a = c.args in

@@ -1,14 +1,11 @@
 -- `report` meets its contract: the checks of call 2, then the count, then the page's length, then the rows. Assumes nothing.
-use mathlib.Core.Path.{◌≡◌, sym, ◌∙◌}
+use mathlib.Core.Path.{◌≡◌, sym}
 use mathlib.Core.List.{List, ◌++◌}
-use lib.ListN.{take}
 use lib.Seq.{length-take-le}
-use borrow.Author.Tests.{ltb-false}
 use Rattle.format.specs.Records.{value_width}
 use Rattle.std.proofs.lemmas.Result.{err_from_is_err_and}
 use Rattle.calls.specs.Calls.{Check, refusal, log_checks}
 use Rattle.calls.proofs.RefusalLaws.{LogAccepted}
-use Rattle.index.specs.Chains.{Ready}
 use Rattle.index.proofs.Links.{table_empty}
 use Rattle.event_log.proofs.Checks.{used-inside, log-kept}
 use Rattle.report.proofs.Reports.{report-refused, report-short, report-written}
@@ -21,13 +18,8 @@ kept : (c : In_ok-check_log_under) → let a = c.args in
     × ((more : List Check) → refusal (log_checks value_width a.terms.now a.log.now a.used ++ more) ≡ refusal more)
 kept c = log-kept _ _ _ c.in_ok-check_log_under.was c.check_log_under.ensures.answer
 
--- the table holds the terms and the used bytes of the log
-ready : (c : In_ok-check_log_under) → let a = c.args in
-    Ready a.terms.now (take a.used a.log.now) c.check_log_under.new.table
-ready c = c.in_ok-check_log_under.ensures.ready
-
-pub check_log_under-requires : goal.check_log_under-requires
-check_log_under-requires c = record { laid_out = c.read_layout-layout.ensures; empty = table_empty }
+pub check_log_under-requires-clause-empty : goal.check_log_under-requires-clause-empty
+check_log_under-requires-clause-empty c = table_empty
 
 pub returns-in_err-check_log_under : goal.returns-in_err-check_log_under
 returns-in_err-check_log_under c =
@@ -40,17 +32,10 @@ slice_bounds-records-end c =
     let a = c.args in
     sym (length-take-le a.used a.log.now (used-inside a.log.now a.used (kept c).0.used-fits))
 
-pub too_short-requires : goal.too_short-requires
-too_short-requires c = ready (goal.at.too_short-requires c).In_ok-check_log_under
-
 pub returns-then-too_short : goal.returns-then-too_short
 returns-then-too_short c =
     let a = c.args in
     report-short a.terms.now a.log.now a.used a.moment a.page.now (kept (goal.at.returns-then-too_short c).In_ok-check_log_under).1 c.too_short.ensures c.if-too_short.true
-
-pub write_rows-requires : goal.write_rows-requires
-write_rows-requires c =
-    let short = c.too_short.ensures in record { ready = ready (goal.at.write_rows-requires c).In_ok-check_log_under; rows_fit = ltb-false _ _ (sym short ∙ c.if-too_short.false) }
 
 pub returns : goal.returns
 returns c =

@@ -13,7 +13,6 @@ use Rattle.calls.specs.Calls.{Check, refusal, log_checks}
 use Rattle.calls.proofs.RefusalLaws.{LogAccepted}
 use Rattle.terms.proofs.Faults.{schemas_count}
 use Rattle.std.specs.Prelude.{Some}
-use Rattle.index.specs.Chains.{Ready}
 use Rattle.index.proofs.Links.{table_empty}
 use Rattle.event_log.proofs.Checks.{used-inside, log-kept}
 use Rattle.report.specs.Shown.{FoundAt}
@@ -26,11 +25,6 @@ kept : (c : In_ok-check_log_under) → let a = c.args in
     LogAccepted value_width a.terms.now a.log.now a.used
     × ((more : List Check) → refusal (log_checks value_width a.terms.now a.log.now a.used ++ more) ≡ refusal more)
 kept c = log-kept _ _ _ c.in_ok-check_log_under.was c.check_log_under.ensures.answer
-
--- the table holds the terms and the used bytes of the log
-ready : (c : In_ok-check_log_under) → let a = c.args in
-    Ready a.terms.now (take a.used a.log.now) c.check_log_under.new.table
-ready c = c.in_ok-check_log_under.ensures.ready
 
 -- how many schemas are told
 told : (c : After-schema_count) → c.schema_count.result ≡ length (file_of c.args.terms.now).schemas
@@ -49,17 +43,14 @@ found : (c : In-Some) → let a = c.args in
     FoundAt a.terms.now (take a.used a.log.now) a.schema a.key a.moment (Some c.in-Some.subject)
 found c = rw c.in-Some.is at c.find_subject.ensures
 
-pub check_log_under-requires : goal.check_log_under-requires
-check_log_under-requires c = record { laid_out = c.read_layout-layout.ensures; empty = table_empty }
+pub check_log_under-requires-clause-empty : goal.check_log_under-requires-clause-empty
+check_log_under-requires-clause-empty c = table_empty
 
 pub returns-in_err-check_log_under : goal.returns-in_err-check_log_under
 returns-in_err-check_log_under c =
     let a = c.args in
     let p = err_from_is_err_and c.from_residual.result c.from_residual.ensures.1 in
     rw (p.1, p.2) (standing-refused a.terms.now a.log.now a.used a.schema a.key a.moment c.in_err-check_log_under.was c.check_log_under.ensures.answer)
-
-pub schema_count-requires : goal.schema_count-requires
-schema_count-requires c = (ready (goal.at.schema_count-requires c).In_ok-check_log_under).read.0.long
 
 pub returns-then-schema_count-schema : goal.returns-then-schema_count-schema
 returns-then-schema_count-schema c =
@@ -72,17 +63,11 @@ slice_bounds-records-end c =
     let a = c.args in
     sym (length-take-le a.used a.log.now (used-inside a.log.now a.used (kept (goal.at.slice_bounds-records-end c).In_ok-check_log_under).0.used-fits))
 
-pub find_subject-requires : goal.find_subject-requires
-find_subject-requires c = (ready (goal.at.find_subject-requires c).In_ok-check_log_under).read
-
 pub returns-in_default : goal.returns-in_default
 returns-in_default c =
     let a = c.args in
     standing-nobody a.terms.now a.log.now a.used a.schema a.key a.moment (kept (goal.at.returns-in_default c).In_ok-check_log_under).1 (known (goal.at.returns-in_default c).Else-schema_count-schema)
     (rw c.in_default.is at c.find_subject.ensures)
-
-pub entries_of-requires : goal.entries_of-requires
-entries_of-requires c = record { ready = ready (goal.at.entries_of-requires c).In_ok-check_log_under; schema_in_bounds = there (goal.at.entries_of-requires c).Else-schema_count-schema; stands = (found (goal.at.entries_of-requires c).In-Some).1 }
 
 pub returns : goal.returns
 returns c =

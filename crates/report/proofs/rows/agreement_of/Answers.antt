@@ -37,33 +37,12 @@ asked c =
 pub bounds-log-subject : goal.bounds-log-subject
 bounds-log-subject c = stands-inside _ c.args.log.now c.args.subject c.requires.stands
 
-pub mask_in-requires : goal.mask_in-requires
-mask_in-requires c = c.requires.read.0.long
-
-pub head_at-head-requires : goal.head_at-head-requires
-head_at-head-requires c = record { read = c.requires.read; schema_in_bounds = c.requires.schema_in_bounds }
-
 pub overflow_cast-result : goal.overflow_cast-result
 overflow_cast-result c = omega (arith, c.requires.schema_in_bounds, schemas-few c.args.terms.now refl)
-
-pub key_at-requires : goal.key_at-requires
-key_at-requires c = record { kinds = c.requires.read.0; stands = c.requires.stands }
-
-pub overflow_add-head : goal.overflow_add-head
-overflow_add-head c = omega (arith, c.head_at-head.ensures.1)
-
-pub bounds-terms-head : goal.bounds-terms-head
-bounds-terms-head c = omega (arith, c.head_at-head.ensures.1)
 
 pub value_of-requires : goal.value_of-requires
 unfolding byte_at
 value_of-requires c = record { mask_carries = (asked (goal.at.value_of-requires c).After-head_at-head).0; inside = (asked (goal.at.value_of-requires c).After-head_at-head).2 }
-
-pub overflow_add-head-2 : goal.overflow_add-head-2
-overflow_add-head-2 c = omega (arith, c.head_at-head.ensures.1)
-
-pub bounds-terms-head-2 : goal.bounds-terms-head-2
-bounds-terms-head-2 c = omega (arith, c.head_at-head.ensures.1)
 
 pub value_of-requires-2 : goal.value_of-requires-2
 unfolding byte_at

@@ -19,17 +19,11 @@ use Rattle.report.proofs.rows.count_record.Goals as goal
 pub bounds-log-asked : goal.bounds-log-asked
 bounds-log-asked c = stands-inside _ c.args.log.now c.args.asked.subject c.requires.stands
 
-pub subject_of-requires : goal.subject_of-requires
-subject_of-requires c = c.requires.ready.read
-
 pub returns-then-log-asked : goal.returns-then-log-asked
 unfolding byte_at
 returns-then-log-asked c =
     let a = c.args in
     (sym (ap length (record-other a.terms.now a.log.now a.asked.schema a.asked.moment a.asked.subject (λ e. c.if-log-asked.true (e ∙ sym c.subject_of.ensures)))), omega arith)
-
-pub entries_of-entries-requires : goal.entries_of-entries-requires
-entries_of-entries-requires c = record { ready = c.requires.ready; schema_in_bounds = c.requires.schema_in_bounds; stands = c.requires.stands }
 
 pub sum-requires-clause-fits : goal.sum-requires-clause-fits
 unfolding byte_at row_in stages

@@ -37,25 +37,9 @@ pub of-clauses-requires : goal.of-clauses-requires
 unfolding schemas_limit
 of-clauses-requires c = omega (arith, few (goal.at.of-clauses-requires c).Start)
 
-pub norm_type-norm-requires : goal.norm_type-norm-requires
-unfolding schemas_limit
-norm_type-norm-requires c = record { read = c.requires.ready.read; schema_in_bounds = c.requires.schema_in_bounds }
-
 pub stamp_at-stamp-requires : goal.stamp_at-stamp-requires
 unfolding schemas_limit
 stamp_at-stamp-requires c = stands-stamped _ c.args.log.now c.args.asked.subject c.requires.stands
-
-pub clause_times-c-requires : goal.clause_times-c-requires
-unfolding schemas_limit
-clause_times-c-requires c = rw c.of-clauses.ensures (record { ready = c.requires.ready; posed = record { ranked = omega (arith, c.requires.schema_in_bounds); stands = c.requires.stands } })
-
-pub clause_times-r-requires : goal.clause_times-r-requires
-unfolding schemas_limit
-clause_times-r-requires c = rw c.of-clauses.ensures (record { ready = c.requires.ready; posed = record { ranked = omega (arith, c.requires.schema_in_bounds); stands = c.requires.stands } })
-
-pub clause_times-u-requires : goal.clause_times-u-requires
-unfolding schemas_limit
-clause_times-u-requires c = rw c.of-clauses.ensures (record { ready = c.requires.ready; posed = record { ranked = omega (arith, c.requires.schema_in_bounds); stands = c.requires.stands } })
 
 pub returns : goal.returns
 returns c =

@@ -4,15 +4,9 @@ use native.Mathlib.Omega.{arith}
 use mathlib.Core.Path.{sym}
 use borrow.Author.Tests.{le-ltb}
 use lib.ListN.{length}
-use Rattle.format.specs.Grammar.{schemas_limit}
 use Rattle.format.specs.Records.{value_width, row_length}
 use Rattle.report.specs.Shown.{schemas_from}
 use Rattle.report.proofs.rows.too_short.Goals as goal
-
--- the bytes of the most rows are few
-pub overflow_mul-rows_at_most : goal.overflow_mul-rows_at_most
-unfolding schemas_limit
-overflow_mul-rows_at_most c = omega (arith, c.rows_at_most.ensures.1)
 
 pub returns-then-rows_at_most-page : goal.returns-then-rows_at_most-page
 unfolding row_length
@@ -20,12 +14,3 @@ returns-then-rows_at_most-page c =
     let a = c.args in
     let rows = schemas_from a.terms.now a.log.now a.moment 0 in
     sym (le-ltb (length a.page.now) (row_length value_width * length rows) (omega (arith, c.if-rows_at_most-page.true, c.rows_at_most.ensures.0 a.moment)))
-
--- so are those of all rows
-pub overflow_mul-result : goal.overflow_mul-result
-unfolding schemas_limit
-overflow_mul-result c = omega (arith, c.count_rows.ensures.1)
-
-pub returns : goal.returns
-unfolding row_length
-returns c = rw c.count_rows.ensures.0

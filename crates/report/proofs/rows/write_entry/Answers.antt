@@ -2,7 +2,6 @@
 use native.Mathlib.Omega.{arith}
 use mathlib.Core.Path.{ap}
 use lib.ListN.{length}
-use borrow.Author.Rules.{rules}
 use Rattle.format.specs.Records.{row_length}
 use Rattle.report.specs.Shown.{row_by}
 use Rattle.report.proofs.Pages.{no_rows, row-in, row_put, row_out}
@@ -16,14 +15,6 @@ pub put_row-requires : goal.put_row-requires
 unfolding row_length
 put_row-requires c =
     omega (arith, c.requires, ap length (row-in (row_by c.args.agreement c.args.stage) c.in-At.is))
-
-pub overflow_add-result : goal.overflow_add-result
-unfolding row_length
-overflow_add-result c = search rules
-
-pub shape_of-page : goal.shape_of-page
-unfolding row_length
-shape_of-page c = search rules
 
 pub returns : goal.returns
 unfolding row_by row_length

@@ -27,13 +27,8 @@ returns-then-log-subject c =
     let a = c.args in
     rw (record-other a.terms.now a.log.now a.asked.schema a.asked.moment a.asked.subject (λ e. c.if-log-subject.true (e ∙ sym c.subject_of.ensures))) (omega arith, no_rows a.page.now a.from)
 
-pub agreement_of-whose-requires : goal.agreement_of-whose-requires
-agreement_of-whose-requires c = record {
-  read = c.requires.ready.read;
-  schema_in_bounds = c.requires.schema_in_bounds;
-  stands = c.requires.stands;
-  of_subject_kind = kind_is _ _ _ (is (goal.at.agreement_of-whose-requires c).After-entries_of-entries);
-}
+pub agreement_of-whose-requires-clause-of_subject_kind : goal.agreement_of-whose-requires-clause-of_subject_kind
+agreement_of-whose-requires-clause-of_subject_kind c = kind_is _ _ _ (is (goal.at.agreement_of-whose-requires-clause-of_subject_kind c).After-entries_of-entries)
 
 pub loop-stage-init : goal.loop-stage-init
 unfolding byte_at
