@@ -7,7 +7,7 @@ use Rattle.format.specs.Grammar.{size, read_expr, file_of, read_clause}
 use Rattle.format.specs.Fields.{leaf_from, cites_from, shares_none}
 use Rattle.grammar.specs.declared.Item.{Item}
 use Rattle.grammar.specs.declared.Spot.{Spot}
-use Rattle.grammar.specs.Places.{no_items, Starts}
+use Rattle.grammar.specs.Places.{no_items}
 use Rattle.fields.specs.Decoded.{LeafAt, leaf_item}
 
 -- some event of a leaf cites a stage that does not rank below k
@@ -50,7 +50,3 @@ clauses_have s p n =
 -- the clause that is read at a place
 abbrev pub ClauseAt : List ℕ → ℕ → Expr (List ℕ) → Type 0
 ClauseAt s at x = (t : List ℕ) × (read_clause (drop at s) ≡ some (x, t))
-
--- where the clause of each rank starts
-abbrev pub PlacedClauses : List ℕ → List ℕ → Type 0
-PlacedClauses s starts = (length starts ≡ 3 * length (file_of s).schemas) × Starts s (file_of s).schemas starts

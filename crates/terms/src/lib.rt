@@ -12,7 +12,7 @@ ghost use Rattle.calls.specs.Calls.{check_terms};
 ghost use Rattle.grammar.specs.Found.{StandsExpr};
 ghost use Rattle.grammar.specs.Places.{no_items, Placed, LaidOut};
 ghost use Rattle.fields.specs.Decoded.{LeafAt, leaf_item};
-ghost use Rattle.terms.specs.Questions.{leaf_cites, leaf_unshared, MayAsk, Asks, clause_has, Walks, clauses_have, ClauseAt, PlacedClauses};
+ghost use Rattle.terms.specs.Questions.{leaf_cites, leaf_unshared, MayAsk, Asks, clause_has, Walks, clauses_have, ClauseAt};
 
 use calls::Refusal;
 use fields::mask_of;
@@ -46,47 +46,6 @@ fn cites_from(k: usize, event: Event) -> bool
         Event::Kind(_) => false,
         Event::StageOf(stage, schema) => k <= rank(stage, schema),
     }
-}
-
-// Where the body of a schema's item 02 starts: right before its create clause.
-fn head_at(starts: &[usize], n: usize) -> usize
-    requires { (3 * n < length starts.now) × (4 ≤ get_or starts.now (3 * n) 0) }
-    ensures { result ≡ get_or starts.now (3 * n) 0 - 4 }
-{
-    let create = starts[3 * n];
-    create - 4
-}
-
-// The subject kind of a schema; past the last schema it is 0.
-fn subject_of(terms: &[u8], kinds: usize, starts: &[usize], schema: usize) -> u8
-    requires { Placed terms.now kinds starts.now }
-    ensures { result ≡ (schema_at (terms_of terms.now) schema).subject }
-{
-    if starts.len() / 3 <= schema {
-        return 0;
-    }
-    terms[head_at(starts, schema) + 1]
-}
-
-// The kind of the records by which an event happens.
-#[tactic(auto, unfolding(meaning::specs::Terms::kind_of))]
-fn kind_of(terms: &[u8], kinds: usize, starts: &[usize], event: Event) -> u8
-    requires { Placed terms.now kinds starts.now }
-    ensures { result ≡ kind_of (terms_of terms.now) event }
-{
-    match event {
-        Event::Kind(k) => k,
-        Event::StageOf(_, schema) => subject_of(terms, kinds, starts, schema as usize),
-    }
-}
-
-// Whether an event's kind and the subject kind have no attribute in common.
-fn shares_none(terms: &[u8], kinds: usize, starts: &[usize], subject: u8, event: Event) -> bool
-    requires { Placed terms.now kinds starts.now }
-    ensures { result ≡ shares_none (terms_of terms.now) subject event }
-{
-    let kind = kind_of(terms, kinds, starts, event);
-    mask_of(terms, kinds, kind) & mask_of(terms, kinds, subject) == 0
 }
 
 // Whether the event of a bound passes a test, if it has one.
@@ -137,25 +96,6 @@ fn leaf_cites(terms: &[u8], rank: usize, at: usize, item: Item) -> bool
     some_event_has(leaf, &|event| cites_from(rank, event))
 }
 
-// Whether the kind of some event of that leaf shares nothing with the subject kind.
-fn leaf_unshared(
-    terms: &[u8],
-    kinds: usize,
-    starts: &[usize],
-    subject: u8,
-    at: usize,
-    item: Item,
-) -> bool
-    requires { Placed terms.now kinds starts.now × LeafAt terms.now at item }
-    ensures { result ≡ leaf_unshared (terms_of terms.now) subject (leaf_item terms.now at item) }
-{
-    let leaf = fields::leaf_at(terms, at, item);
-    some_event_has(
-        leaf,
-        &|event| shares_none(terms, kinds, starts, subject, event),
-    )
-}
-
 // Whether some leaf of an expression passes a test of its clause's rank, its place and its item: none, if one does; or else where the expression
 // ends, and how many items are left.
 fn expression_has<F: Fn(usize, usize, Item) -> bool>(
@@ -193,87 +133,6 @@ fn expression_has<F: Fn(usize, usize, Item) -> bool>(
     }
 }
 
-// Whether some leaf of the clause of a rank passes a test.
-fn clause_has<F: Fn(usize, usize, Item) -> bool>(
-    terms: &[u8],
-    starts: &[usize],
-    rank: usize,
-    test: &F,
-) -> bool
-    requires clause { (rank < length starts.now) × ((x : Expr (List ℕ)) × ClauseAt terms.now (get_or starts.now rank 0) x) }
-    requires test { MayAsk terms.now (F.pre test.now rank) }
-    ensures { (p : List ℕ → Bool) → Asks terms.now (F.post test.now rank) p → (x : Expr (List ℕ)) → ClauseAt terms.now (get_or starts.now rank 0) x → result ≡ clause_has p x }
-{
-    let clause = Spot {
-        at: starts[rank],
-        items: EXPRESSION_LIMIT,
-    };
-    expression_has(terms, rank, clause, test).is_none()
-}
-
-// Whether some leaf of the schema with a number passes a test: its clauses rank 3n, 3n + 1 and 3n + 2.
-fn clauses_have<F: Fn(usize, usize, Item) -> bool>(
-    terms: &[u8],
-    starts: &[usize],
-    n: usize,
-    test: &F,
-) -> bool
-    requires placed { PlacedClauses terms.now starts.now × (3 * n < length starts.now) }
-    requires test { (rank : ℕ) → rank < length starts.now → MayAsk terms.now (F.pre test.now rank) }
-    ensures { (p : ℕ → List ℕ → Bool) → ((rank : ℕ) → rank < length starts.now → Asks terms.now (F.post test.now rank) (p rank)) → result ≡ clauses_have terms.now p n }
-{
-    if clause_has(terms, starts, 3 * n, test) {
-        return true;
-    }
-    if clause_has(terms, starts, 3 * n + 1, test) {
-        return true;
-    }
-    clause_has(terms, starts, 3 * n + 2, test)
-}
-
-// Refusal 3 at the schema with a number.
-fn schema_wrong(terms: &[u8], kinds: usize, starts: &[usize], n: usize) -> bool
-    requires { Placed terms.now kinds starts.now × (3 * n < length starts.now) }
-    ensures { result ≡ schema_wrong (terms_of terms.now) (get_or (file_of terms.now).schemas n no_items) }
-{
-    if fields::head_wrong(terms, kinds, head_at(starts, n)) {
-        return true;
-    }
-    clauses_have(
-        terms,
-        starts,
-        n,
-        &|_, at, item| fields::leaf_wrong(terms, kinds, at, item),
-    )
-}
-
-// Refusal 4 at the schema with a number.
-fn schema_cites(terms: &[u8], starts: &[usize], n: usize) -> bool
-    requires { PlacedClauses terms.now starts.now × (3 * n < length starts.now) }
-    ensures { result ≡ cites_too_high (terms_of terms.now) n }
-{
-    clauses_have(
-        terms,
-        starts,
-        n,
-        &|rank, at, item| leaf_cites(terms, rank, at, item),
-    )
-}
-
-// Refusal 5 at the schema with a number.
-fn schema_unshared(terms: &[u8], kinds: usize, starts: &[usize], n: usize) -> bool
-    requires { Placed terms.now kinds starts.now × (3 * n < length starts.now) }
-    ensures { result ≡ unshared_in (terms_of terms.now) (schema_at (terms_of terms.now) n) }
-{
-    let subject = subject_of(terms, kinds, starts, n);
-    clauses_have(
-        terms,
-        starts,
-        n,
-        &|_, at, item| leaf_unshared(terms, kinds, starts, subject, at, item),
-    )
-}
-
 // Whether some number below a limit passes a test.
 fn some_below<F: Fn(usize) -> bool>(limit: usize, test: F) -> bool
     requires { (n : ℕ) → n < limit → F.pre test n }
@@ -287,15 +146,133 @@ fn some_below<F: Fn(usize) -> bool>(limit: usize, test: F) -> bool
     false
 }
 
-// Refusal 3 anywhere in the file.
-fn field_wrong(terms: &[u8], kinds: usize, starts: &[usize]) -> bool
-    requires { Placed terms.now kinds starts.now }
-    ensures { result ≡ field_wrong (file_of terms.now) }
-{
-    if some_below(kinds, |i| fields::kind_wrong(terms, i)) {
-        return true;
+// Where things stand in terms: how many kinds they declare, and where the clause of each rank starts.
+#[derive(Clone, Copy)]
+struct Places<'a> {
+    terms: &'a [u8],
+    kinds: usize,
+    starts: &'a [usize],
+}
+
+impl Places<'_> {
+    // Where the body of a schema's item 02 starts: right before its create clause.
+    fn head_at(&self, n: usize) -> usize
+        requires { (3 * n < length self.now.starts.now) × (4 ≤ get_or self.now.starts.now (3 * n) 0) }
+        ensures { result ≡ get_or self.now.starts.now (3 * n) 0 - 4 }
+    {
+        self.starts[3 * n] - 4
     }
-    some_below(starts.len() / 3, |n| schema_wrong(terms, kinds, starts, n))
+
+    // The subject kind of a schema; past the last schema it is 0.
+    fn subject_of(&self, schema: usize) -> u8
+        requires { Placed self.now.terms.now self.now.kinds self.now.starts.now }
+        ensures { result ≡ (schema_at (terms_of self.now.terms.now) schema).subject }
+    {
+        if self.starts.len() / 3 <= schema {
+            return 0;
+        }
+        self.terms[self.head_at(schema) + 1]
+    }
+
+    // The kind of the records by which an event happens.
+    #[tactic(auto, unfolding(meaning::specs::Terms::kind_of))]
+    fn kind_of(&self, event: Event) -> u8
+        requires { Placed self.now.terms.now self.now.kinds self.now.starts.now }
+        ensures { result ≡ kind_of (terms_of self.now.terms.now) event }
+    {
+        match event {
+            Event::Kind(k) => k,
+            Event::StageOf(_, schema) => self.subject_of(schema as usize),
+        }
+    }
+
+    // Whether an event's kind and the subject kind have no attribute in common.
+    fn shares_none(&self, subject: u8, event: Event) -> bool
+        requires { Placed self.now.terms.now self.now.kinds self.now.starts.now }
+        ensures { result ≡ shares_none (terms_of self.now.terms.now) subject event }
+    {
+        let kind = self.kind_of(event);
+        mask_of(self.terms, self.kinds, kind) & mask_of(self.terms, self.kinds, subject) == 0
+    }
+
+    // Whether the kind of some event of the leaf whose item, 03 or 08, starts at a place shares nothing with the subject kind.
+    fn leaf_unshared(&self, subject: u8, at: usize, item: Item) -> bool
+        requires { Placed self.now.terms.now self.now.kinds self.now.starts.now × LeafAt self.now.terms.now at item }
+        ensures { result ≡ leaf_unshared (terms_of self.now.terms.now) subject (leaf_item self.now.terms.now at item) }
+    {
+        let leaf = fields::leaf_at(self.terms, at, item);
+        some_event_has(leaf, &|event| self.shares_none(subject, event))
+    }
+
+    // Whether some leaf of the clause of a rank passes a test.
+    fn clause_has<F: Fn(usize, usize, Item) -> bool>(&self, rank: usize, test: &F) -> bool
+        requires clause { (rank < length self.now.starts.now) × ((x : Expr (List ℕ)) × ClauseAt self.now.terms.now (get_or self.now.starts.now rank 0) x) }
+        requires test { MayAsk self.now.terms.now (F.pre test.now rank) }
+        ensures { (p : List ℕ → Bool) → Asks self.now.terms.now (F.post test.now rank) p → (x : Expr (List ℕ)) → ClauseAt self.now.terms.now (get_or self.now.starts.now rank 0) x → result ≡ clause_has p x }
+    {
+        let clause = Spot {
+            at: self.starts[rank],
+            items: EXPRESSION_LIMIT,
+        };
+        expression_has(self.terms, rank, clause, test).is_none()
+    }
+
+    // Whether some leaf of the schema with a number passes a test: its clauses rank 3n, 3n + 1 and 3n + 2.
+    fn clauses_have<F: Fn(usize, usize, Item) -> bool>(&self, n: usize, test: &F) -> bool
+        requires placed { Placed self.now.terms.now self.now.kinds self.now.starts.now × (3 * n < length self.now.starts.now) }
+        requires test { (rank : ℕ) → rank < length self.now.starts.now → MayAsk self.now.terms.now (F.pre test.now rank) }
+        ensures { (p : ℕ → List ℕ → Bool) → ((rank : ℕ) → rank < length self.now.starts.now → Asks self.now.terms.now (F.post test.now rank) (p rank)) → result ≡ clauses_have self.now.terms.now p n }
+    {
+        if self.clause_has(3 * n, test) {
+            return true;
+        }
+        if self.clause_has(3 * n + 1, test) {
+            return true;
+        }
+        self.clause_has(3 * n + 2, test)
+    }
+
+    // Refusal 3 at the schema with a number.
+    fn schema_wrong(&self, n: usize) -> bool
+        requires { Placed self.now.terms.now self.now.kinds self.now.starts.now × (3 * n < length self.now.starts.now) }
+        ensures { result ≡ schema_wrong (terms_of self.now.terms.now) (get_or (file_of self.now.terms.now).schemas n no_items) }
+    {
+        if fields::head_wrong(self.terms, self.kinds, self.head_at(n)) {
+            return true;
+        }
+        self.clauses_have(
+            n,
+            &|_, at, item| fields::leaf_wrong(self.terms, self.kinds, at, item),
+        )
+    }
+
+    // Refusal 4 at the schema with a number.
+    fn schema_cites(&self, n: usize) -> bool
+        requires { Placed self.now.terms.now self.now.kinds self.now.starts.now × (3 * n < length self.now.starts.now) }
+        ensures { result ≡ cites_too_high (terms_of self.now.terms.now) n }
+    {
+        self.clauses_have(n, &|rank, at, item| leaf_cites(self.terms, rank, at, item))
+    }
+
+    // Refusal 5 at the schema with a number.
+    fn schema_unshared(&self, n: usize) -> bool
+        requires { Placed self.now.terms.now self.now.kinds self.now.starts.now × (3 * n < length self.now.starts.now) }
+        ensures { result ≡ unshared_in (terms_of self.now.terms.now) (schema_at (terms_of self.now.terms.now) n) }
+    {
+        let subject = self.subject_of(n);
+        self.clauses_have(n, &|_, at, item| self.leaf_unshared(subject, at, item))
+    }
+
+    // Refusal 3 anywhere in the file.
+    fn field_wrong(&self) -> bool
+        requires { Placed self.now.terms.now self.now.kinds self.now.starts.now }
+        ensures { result ≡ field_wrong (file_of self.now.terms.now) }
+    {
+        if some_below(self.kinds, |i| fields::kind_wrong(self.terms, i)) {
+            return true;
+        }
+        some_below(self.starts.len() / 3, |n| self.schema_wrong(n))
+    }
 }
 
 // Refusal 2: no kind, no schema, or bytes left unread.
@@ -314,23 +291,25 @@ pub fn check_terms_under(terms: &[u8], layout: Layout) -> Result<(), Refusal>
     requires { LaidOut terms.now layout }
     ensures { checked_answer result ≡ check_terms terms.now }
 {
-    let kinds = layout.kinds;
-    let places = layout.starts;
-    let clauses = 3 * layout.schemas;
-    let starts = &places[..clauses];
+    let starts = layout.starts;
+    let places = Places {
+        terms,
+        kinds: layout.kinds,
+        starts: &starts[..3 * layout.schemas],
+    };
     if TERMS_LIMIT < terms.len() {
         return Err(Refusal::TermsTooLong);
     }
     if breaks_grammar(terms, layout) {
         return Err(Refusal::BrokenGrammar);
     }
-    if field_wrong(terms, kinds, starts) {
+    if places.field_wrong() {
         return Err(Refusal::FieldOutOfRange);
     }
-    if some_below(layout.schemas, |n| schema_cites(terms, starts, n)) {
+    if some_below(layout.schemas, |n| places.schema_cites(n)) {
         return Err(Refusal::CitationTooHigh);
     }
-    if some_below(layout.schemas, |n| schema_unshared(terms, kinds, starts, n)) {
+    if some_below(layout.schemas, |n| places.schema_unshared(n)) {
         return Err(Refusal::NothingShared);
     }
     Ok(())

@@ -44,15 +44,15 @@ unshared c = rw (unshared-faults, ← c.requires.schemas_read) (c.some_below-2.e
 low : (c : After-some_below) → c.some_below.result ≡ false → citation_wrong (terms_of c.args.terms.now) ≡ false
 low c e = sym (cites c) ∙ e
 
-pub overflow_mul-clauses : goal.overflow_mul-clauses
-overflow_mul-clauses c = omega (arith, layout-few _ _ c.requires)
-
-pub slice_bounds-places-end : goal.slice_bounds-places-end
-slice_bounds-places-end c = omega (arith, layout-few _ _ c.requires, long (goal.at.slice_bounds-places-end c).Start)
+pub overflow_mul-starts : goal.overflow_mul-starts
+overflow_mul-starts c = omega (arith, layout-few _ _ c.requires)
 
 pub slice_bounds-starts-end : goal.slice_bounds-starts-end
-slice_bounds-starts-end c =
-    sym (length-take-le (3 * c.args.layout.schemas) c.args.layout.starts (omega (arith, layout-few _ _ c.requires, long (goal.at.slice_bounds-starts-end c).Start)))
+slice_bounds-starts-end c = omega (arith, layout-few _ _ c.requires, long (goal.at.slice_bounds-starts-end c).Start)
+
+pub slice_bounds-places-end : goal.slice_bounds-places-end
+slice_bounds-places-end c =
+    sym (length-take-le (3 * c.args.layout.schemas) c.args.layout.starts (omega (arith, layout-few _ _ c.requires, long (goal.at.slice_bounds-places-end c).Start)))
 
 pub returns-then-terms-gt-TERMS_LIMIT : goal.returns-then-terms-gt-TERMS_LIMIT
 unfolding checked_answer check_terms checked terms_checks refusal terms_too_long terms_limit

@@ -8,11 +8,11 @@ use Rattle.format.specs.Fields.{head_wrong, leaf_wrong, terms_of}
 use Rattle.format.proofs.KindLaws.{kinds_count}
 use Rattle.grammar.specs.Places.{no_items}
 use Rattle.terms.proofs.Faults.{field-here}
-use Rattle.terms.proofs.schema_wrong.Goals.{After-head_wrong}
-use Rattle.terms.proofs.schema_wrong.Goals as goal
+use Rattle.terms.proofs.Places.schema_wrong.Goals.{After-head_wrong}
+use Rattle.terms.proofs.Places.schema_wrong.Goals as goal
 
 -- the head
-head-is : (c : After-head_wrong) → head_wrong (terms_of c.args.terms.now) (get_or (file_of c.args.terms.now).schemas c.args.n no_items).head ≡ c.head_wrong.result
+head-is : (c : After-head_wrong) → head_wrong (terms_of c.args.self.now.terms.now) (get_or (file_of c.args.self.now.terms.now).schemas c.args.n no_items).head ≡ c.head_wrong.result
 head-is c = rw ((c.requires.0.2 c.args.n (omega arith)).1.head_body, ← c.head_at.ensures) (sym c.head_wrong.ensures)
 
 pub head_at-requires : goal.head_at-requires
@@ -26,7 +26,7 @@ returns-then-head_wrong c = rw (field-here, head-is (goal.at.returns-then-head_w
 
 pub returns : goal.returns
 returns c =
-    let s = c.args.terms.now in
+    let s = c.args.self.now.terms.now in
     let count = c.requires.0.0 ∙ sym (kinds_count s) in
     rw (field-here, head-is (goal.at.returns c).After-head_wrong ∙ c.if-head_wrong.false)
     (c.clauses_have.ensures (λ rank. leaf_wrong (terms_of s)) (λ rank h at item b is post. search rules))

@@ -4,9 +4,9 @@ use mathlib.Core.Path.{sym, ◌∙◌}
 use borrow.Author.Rules.{rules}
 use Rattle.terms.specs.Questions.{leaf_cites}
 use Rattle.terms.proofs.Faults.{citation-here}
-use Rattle.terms.proofs.schema_cites.Goals as goal
+use Rattle.terms.proofs.Places.schema_cites.Goals as goal
 
 pub returns : goal.returns
 returns c =
     let a = c.args in
-    c.clauses_have.ensures leaf_cites (λ rank h at item b is post. search rules) ∙ sym (citation-here a.terms.now a.n (omega arith))
+    c.clauses_have.ensures leaf_cites (λ rank h at item b is post. search rules) ∙ sym (citation-here a.self.now.terms.now a.n (omega arith))

@@ -9,29 +9,29 @@ use Rattle.format.specs.Grammar.{file_of}
 use Rattle.format.specs.Fields.{kind_wrong}
 use Rattle.format.proofs.KindLaws.{kind-here}
 use Rattle.terms.proofs.Faults.{kind-fault, field-fault, field-faults}
-use Rattle.terms.proofs.field_wrong.Goals.{After-some_below, After-some_below-2}
-use Rattle.terms.proofs.field_wrong.Goals as goal
+use Rattle.terms.proofs.Places.field_wrong.Goals.{After-some_below, After-some_below-2}
+use Rattle.terms.proofs.Places.field_wrong.Goals as goal
 
 pub some_below-requires : goal.some_below-requires
 some_below-requires c n h =
-    let inside : 5 * n + 5 ≤ length c.args.terms.now = omega (arith, (kind-here c.args.terms.now n (omega arith)).1) in
+    let inside : 5 * n + 5 ≤ length c.args.self.now.terms.now = omega (arith, (kind-here c.args.self.now.terms.now n (omega arith)).1) in
     search rules
 
 -- the kinds
-kinds-are : (c : After-some_below) → let s = c.args.terms.now in
+kinds-are : (c : After-some_below) → let s = c.args.self.now.terms.now in
     c.some_below.result ≡ any_of (kind-fault s) (numbers_from 0 (length (file_of s).kinds))
 kinds-are c =
-    let s = c.args.terms.now in
+    let s = c.args.self.now.terms.now in
     rw (← c.requires.0) (c.some_below.ensures (kind-fault s) (λ n b h post.
     let told : b ≡ kind_wrong n (take 4 (drop (5 * n + 1) s)) = search rules in
     told ∙ sym (ap (kind_wrong n) (kind-here s n (omega arith)).0)))
 
 -- the schemas
-schemas-are : (c : After-some_below-2) → let s = c.args.terms.now in
+schemas-are : (c : After-some_below-2) → let s = c.args.self.now.terms.now in
     c.some_below-2.result ≡ any_of (field-fault s) (numbers_from 0 (length (file_of s).schemas))
 schemas-are c =
-    let s = c.args.terms.now in
-    let all : length c.args.starts.now / 3 ≡ length (file_of s).schemas = omega (arith, c.requires.1) in
+    let s = c.args.self.now.terms.now in
+    let all : length c.args.self.now.starts.now / 3 ≡ length (file_of s).schemas = omega (arith, c.requires.1) in
     rw all at (c.some_below-2.ensures (field-fault s) (λ n b h post. search rules))
 
 pub returns-then-some_below : goal.returns-then-some_below

@@ -2,7 +2,7 @@
 use native.Mathlib.Omega.{arith}
 use Rattle.format.specs.Fields.{shares_none}
 use Rattle.meaning.proofs.MaskLaws.{unshared-and}
-use Rattle.terms.proofs.shares_none.Goals as goal
+use Rattle.terms.proofs.Places.shares_none.Goals as goal
 
 pub returns : goal.returns
 unfolding shares_none

@@ -8,7 +8,7 @@ use Rattle.meaning.specs.Terms.{Expr}
 use Rattle.format.specs.Grammar.{expr_limit, read_clause}
 use Rattle.grammar.specs.declared.Spot.{Spot}
 use Rattle.terms.specs.Questions.{clause_has, WalkedOver}
-use Rattle.terms.proofs.clause_has.Goals as goal
+use Rattle.terms.proofs.Places.clause_has.Goals as goal
 
 -- the walk found a leaf, or went past all
 told : (s : List ℕ) (P : (List ℕ → Bool) → Type 0) (items : ℕ) (x : Expr (List ℕ)) (t : List ℕ) (r : Option Spot) (b : Bool) → WalkedOver s P items x t r → is_some r ≡ not b
