@@ -10,9 +10,9 @@ ghost use Rattle.format.specs.Fields.{schema_wrong, cites_too_high, unshared_in,
 ghost use Rattle.calls.specs.Answers.{checked_answer};
 ghost use Rattle.calls.specs.Calls.{check_terms};
 ghost use Rattle.grammar.specs.Found.{StandsExpr};
-ghost use Rattle.grammar.specs.Places.{no_items, Placed, LaidOut};
+ghost use Rattle.grammar.specs.Places.{no_items, LaidOut};
 ghost use Rattle.fields.specs.Decoded.{LeafAt, leaf_item};
-ghost use Rattle.terms.specs.Questions.{leaf_cites, leaf_unshared, MayAsk, Asks, clause_has, Walks, clauses_have, ClauseAt};
+ghost use Rattle.terms.specs.Questions.{leaf_cites, leaf_unshared, MayAsk, Asks, clause_has, Walks, clauses_have, ClauseAt, ArePlaced};
 
 use calls::Refusal;
 use fields::mask_of;
@@ -165,7 +165,7 @@ impl Places<'_> {
 
     // The subject kind of a schema; past the last schema it is 0.
     fn subject_of(&self, schema: usize) -> u8
-        requires { Placed self.now.terms.now self.now.kinds self.now.starts.now }
+        requires { ArePlaced self.now }
         ensures { result ≡ (schema_at (terms_of self.now.terms.now) schema).subject }
     {
         if self.starts.len() / 3 <= schema {
@@ -177,7 +177,7 @@ impl Places<'_> {
     // The kind of the records by which an event happens.
     #[tactic(auto, unfolding(meaning::specs::Terms::kind_of))]
     fn kind_of(&self, event: Event) -> u8
-        requires { Placed self.now.terms.now self.now.kinds self.now.starts.now }
+        requires { ArePlaced self.now }
         ensures { result ≡ kind_of (terms_of self.now.terms.now) event }
     {
         match event {
@@ -188,7 +188,7 @@ impl Places<'_> {
 
     // Whether an event's kind and the subject kind have no attribute in common.
     fn shares_none(&self, subject: u8, event: Event) -> bool
-        requires { Placed self.now.terms.now self.now.kinds self.now.starts.now }
+        requires { ArePlaced self.now }
         ensures { result ≡ shares_none (terms_of self.now.terms.now) subject event }
     {
         let kind = self.kind_of(event);
@@ -197,7 +197,7 @@ impl Places<'_> {
 
     // Whether the kind of some event of the leaf whose item, 03 or 08, starts at a place shares nothing with the subject kind.
     fn leaf_unshared(&self, subject: u8, at: usize, item: Item) -> bool
-        requires { Placed self.now.terms.now self.now.kinds self.now.starts.now × LeafAt self.now.terms.now at item }
+        requires { ArePlaced self.now × LeafAt self.now.terms.now at item }
         ensures { result ≡ leaf_unshared (terms_of self.now.terms.now) subject (leaf_item self.now.terms.now at item) }
     {
         let leaf = fields::leaf_at(self.terms, at, item);
@@ -219,7 +219,7 @@ impl Places<'_> {
 
     // Whether some leaf of the schema with a number passes a test: its clauses rank 3n, 3n + 1 and 3n + 2.
     fn clauses_have<F: Fn(usize, usize, Item) -> bool>(&self, n: usize, test: &F) -> bool
-        requires placed { Placed self.now.terms.now self.now.kinds self.now.starts.now × (3 * n < length self.now.starts.now) }
+        requires placed { ArePlaced self.now × (3 * n < length self.now.starts.now) }
         requires test { (rank : ℕ) → rank < length self.now.starts.now → MayAsk self.now.terms.now (F.pre test.now rank) }
         ensures { (p : ℕ → List ℕ → Bool) → ((rank : ℕ) → rank < length self.now.starts.now → Asks self.now.terms.now (F.post test.now rank) (p rank)) → result ≡ clauses_have self.now.terms.now p n }
     {
@@ -234,7 +234,7 @@ impl Places<'_> {
 
     // Refusal 3 at the schema with a number.
     fn schema_wrong(&self, n: usize) -> bool
-        requires { Placed self.now.terms.now self.now.kinds self.now.starts.now × (3 * n < length self.now.starts.now) }
+        requires { ArePlaced self.now × (3 * n < length self.now.starts.now) }
         ensures { result ≡ schema_wrong (terms_of self.now.terms.now) (get_or (file_of self.now.terms.now).schemas n no_items) }
     {
         if fields::head_wrong(self.terms, self.kinds, self.head_at(n)) {
@@ -248,7 +248,7 @@ impl Places<'_> {
 
     // Refusal 4 at the schema with a number.
     fn schema_cites(&self, n: usize) -> bool
-        requires { Placed self.now.terms.now self.now.kinds self.now.starts.now × (3 * n < length self.now.starts.now) }
+        requires { ArePlaced self.now × (3 * n < length self.now.starts.now) }
         ensures { result ≡ cites_too_high (terms_of self.now.terms.now) n }
     {
         self.clauses_have(n, &|rank, at, item| leaf_cites(self.terms, rank, at, item))
@@ -256,7 +256,7 @@ impl Places<'_> {
 
     // Refusal 5 at the schema with a number.
     fn schema_unshared(&self, n: usize) -> bool
-        requires { Placed self.now.terms.now self.now.kinds self.now.starts.now × (3 * n < length self.now.starts.now) }
+        requires { ArePlaced self.now × (3 * n < length self.now.starts.now) }
         ensures { result ≡ unshared_in (terms_of self.now.terms.now) (schema_at (terms_of self.now.terms.now) n) }
     {
         let subject = self.subject_of(n);
@@ -265,7 +265,7 @@ impl Places<'_> {
 
     // Refusal 3 anywhere in the file.
     fn field_wrong(&self) -> bool
-        requires { Placed self.now.terms.now self.now.kinds self.now.starts.now }
+        requires { ArePlaced self.now }
         ensures { result ≡ field_wrong (file_of self.now.terms.now) }
     {
         if some_below(self.kinds, |i| fields::kind_wrong(self.terms, i)) {
