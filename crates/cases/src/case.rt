@@ -26,7 +26,7 @@ pub(crate) enum Log {
     Given(Vec<u8>),
 }
 
-// The call that is asked for; behind a report, the moment from which on its rows are struck.
+// The call that is asked for; after a report, the moment from which on its rows are struck.
 #[derive(Drop)]
 pub(crate) enum Call {
     CheckTerms,
@@ -86,7 +86,7 @@ fn read_bytes(alloc: Global, words: &mut Words<'_>, room: usize) -> Result<Vec<u
     Ok(bytes)
 }
 
-// The bytes behind a keyword, if it comes next.
+// The bytes after a keyword, if it comes next.
 fn read_section(
     alloc: Global,
     words: &mut Words<'_>,
@@ -122,7 +122,7 @@ fn read_used(words: &mut Words<'_>) -> Result<Option<usize>, Failure>
     Ok(Some(read_number(words, LARGEST)?))
 }
 
-// Behind `report`: what is asked for.
+// After `report`: what is asked for.
 fn read_report(words: &mut Words<'_>) -> Result<Call, Failure>
     ensures { left words.new ≤ left words.old }
 {
@@ -140,7 +140,7 @@ fn read_report(words: &mut Words<'_>) -> Result<Call, Failure>
     })
 }
 
-// Behind `standing`: what is asked for.
+// After `standing`: what is asked for.
 fn read_standing(words: &mut Words<'_>) -> Result<Call, Failure>
     ensures { left words.new ≤ left words.old }
 {

@@ -81,7 +81,7 @@ fn show_log(rt: &impl Print, before: &[u8], log: &[u8], put: Range<usize>) -> io
     Ok(())
 }
 
-// Prints the answer of call 3, the bytes that are put behind the used ones, and whether any other byte of the buffer has changed. The used
+// Prints the answer of call 3, the bytes that are put after the used ones, and whether any other byte of the buffer has changed. The used
 // length that goes on.
 pub(crate) fn show_appended(
     rt: &impl Print,

@@ -59,7 +59,7 @@ pub(crate) fn number_of(word: &[u8]) -> Option<usize> {
     str::from_utf8(word).ok()?.parse().ok()
 }
 
-// What stands before and behind the first such mark in a word.
+// What stands before and after the first such mark in a word.
 fn split_once(word: &[u8], mark: u8) -> Option<(&[u8], &[u8])> {
     let at = word.iter().position(|byte| *byte == mark)?;
     Some((&word[..at], &word[at + 1..]))
@@ -87,7 +87,7 @@ impl Token {
         })
     }
 
-    // Puts the copies behind others, where there is room for so many bytes.
+    // Puts the copies after others, where there is room for so many bytes.
     pub(crate) fn put(mut self, to: &mut Vec<u8>, room: usize) -> Result<(), Failure>
         ensures { vec_len to.old ≤ room → OnOk result (vec_len to.new ≤ room) }
     {

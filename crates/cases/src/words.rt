@@ -13,7 +13,7 @@ fn is_blank(byte: u8) -> bool {
     byte <= b' '
 }
 
-// What stands behind the spaces, line ends and comments at the front of a text.
+// What stands after the spaces, line ends and comments at the front of a text.
 fn behind_blanks(text: &[u8]) -> &[u8]
     ensures { length result.now ≤ length text.now }
 {

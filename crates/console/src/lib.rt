@@ -109,7 +109,7 @@ fn row_of(bytes: &[u8]) -> Option<Row>
     })
 }
 
-// The row at the front of bytes, if one stands there, and the bytes behind it.
+// The row at the front of bytes, if one stands there, and the bytes after it.
 pub fn split_row(bytes: &[u8]) -> Option<(Row, &[u8])>
     ensures found { IfSome result (λ found. row_bytes value_width found.0 ++ found.1.now ≡ bytes.now) }
     ensures none { IsNone result → ¬ (StartsWithRow bytes.now) }
@@ -121,7 +121,7 @@ pub fn split_row(bytes: &[u8]) -> Option<(Row, &[u8])>
     Some((row_of(row)?, behind))
 }
 
-// The rows at the front of a page, as many as are asked for and there, and the bytes behind them.
+// The rows at the front of a page, as many as are asked for and there, and the bytes after them.
 pub fn split_rows(alloc: Global, page: &[u8], count: usize) -> Result<(Vec<Row>, &[u8]), AllocError>
     ensures rows { IfOk result (λ found. rows_bytes found.0.items ++ found.1.now ≡ page.now) }
     ensures count { IfOk result (λ found. (vec_len found.0 ≡ count) ⊎ ¬ (StartsWithRow found.1.now)) }
