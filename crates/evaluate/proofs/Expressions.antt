@@ -1,5 +1,5 @@
 -- The times of an expression at a place of terms, by what the code tells of it; and a stage's time from those times of its clauses that it needs.
---     leaf-times, and-times, or-times, except-times,  its times, case by case
+--     leaf-times, count-as, and-times, or-times, except-times,  its times, case by case
 --     always-times, nothing-times
 --     occurs-times, fails-times                       both times, where it occurs and where it does not
 --     stage-whole, stage-here                         a stage's time from its clauses
@@ -14,7 +14,8 @@ use Rattle.meaning.specs.declared.Stage.{Stage}
 use Rattle.meaning.specs.declared.NormType.{NormType}
 use Rattle.meaning.specs.declared.Leaf.{Leaf}
 use Rattle.meaning.specs.declared.Atom.{Atom}
-use Rattle.meaning.specs.declared.Atom.TheVariants.{Happens}
+use Rattle.meaning.specs.declared.Atom.TheVariants.{Happens, Counts}
+use Rattle.meaning.specs.declared.CountLeaf.{CountLeaf}
 use Rattle.meaning.specs.declared.Times.{Times}
 use Rattle.meaning.specs.Time.{later_of}
 use Rattle.meaning.specs.Terms.{Expr, leaf, and, or, except, always, schema_at}
@@ -51,6 +52,10 @@ module _ (terms log : List ℕ) (k subject : ℕ) where
     pub leaf-times : {a : Atom} {l : Leaf} → x ≡ leaf a → a ≡ Happens l → times_in x ≡ record { occurs = under leaf_occurrence terms log k subject l; fails = under leaf_failure terms log k subject l }
     unfolding under times_of
     leaf-times e f = rw (e, f)
+
+    -- those of a count
+    pub count-as : {a : Atom} {c : CountLeaf} → x ≡ leaf a → a ≡ Counts c → times_in x ≡ times_in (leaf (Counts c))
+    count-as e f = rw (e, f)
 
     -- those of both
     pub and-times : {a b : Expr Atom} → x ≡ and a b → times_in x ≡ and_of (times_in a) (times_in b)

@@ -119,6 +119,8 @@ module _ (s : List ℕ) (at items : ℕ) where
               (expr-join is (items - 1) second.items s at items a.0 b.0 (drop second.at s) (drop end.at s) k a.1 q),
           omega arith,
           omega (arith, a.2, size-positive a.0),
+          omega (arith, a.3, a.4),
+          refl,
         )
 
     -- both are read, whichever of the three connectives it is

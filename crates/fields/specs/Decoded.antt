@@ -1,5 +1,5 @@
 -- The signs of a bound by their bytes, and what a decoded event, bound or expression stands for in the model. Assumes nothing: these are definitions.
-use Rattle.std.specs.Prelude.{ℕ, suc, ◌+◌, ◌≤◌, ◌<◌, ◌≡◌, ◌⊎◌, List, Option, Some, None, Result, MatchResult, length, take, drop}
+use Rattle.std.specs.Prelude.{ℕ, suc, ◌+◌, ◌-◌, ◌≤◌, ◌<◌, ◌≡◌, ◌⊎◌, List, Option, Some, None, Result, MatchResult, length, take, drop}
 use Rattle.std.proofs.Math.Option.{none, some}
 use Rattle.std.proofs.Math.Option as model
 use Rattle.meaning.specs.declared.Atom.{Atom}
@@ -40,11 +40,12 @@ LeafAt s at item = ((item ≡ Leaf) ⊎ (item ≡ Count)) × (code_of item ≡ b
 abbrev pub leaf_item : List ℕ → ℕ → Item → List ℕ
 leaf_item s at item = take (suc (body_of item)) (drop at s)
 
--- a connective at a place: its operands stand at two spots, with fewer items each
+-- a connective at a place inside the bytes: its operands stand at two spots, with fewer items each, the first right after its byte
 abbrev pub JoinedAt : (Expr Atom → Expr Atom → Expr Atom) → List ℕ → Spot → Spot → Spot → Type 0
 JoinedAt join s spot first second =
     (expr_at s spot.at spot.items ≡ join (expr_at s first.at first.items) (expr_at s second.at second.items))
     × (first.items < spot.items) × (second.items < spot.items)
+    × (spot.at < length s) × (first ≡ record { at = spot.at + 1; items = spot.items - 1 })
 
 -- the operands of the connective at a place, whichever of the three it is; none, where the whole cannot be read
 abbrev pub OperandsAt : List ℕ → Spot → Option (Spot × Spot) → Type 0

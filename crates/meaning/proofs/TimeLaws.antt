@@ -161,6 +161,31 @@ unfolding once_known later_of
 once_known-never Never = refl
 once_known-never (At n) = refl
 
+-- what code finds that compares two minutes: the second is the later one
+pub later-right : {a b : Time} {x y : ℕ} → a ≡ At x → b ≡ At y → x < y → At y ≡ later_of a b
+unfolding later_of
+later-right {x = x} {y = y} p q h = rw (p, q) (ap At (omega arith))
+
+-- the first is the later one, or as late
+pub later-left : {a b : Time} {x y : ℕ} → a ≡ At x → b ≡ At y → y ≤ x → At x ≡ later_of a b
+unfolding later_of
+later-left {x = x} {y = y} p q h = rw (p, q) (ap At (omega arith))
+
+-- the first is the earlier one
+pub earlier-left : {a b : Time} {x y : ℕ} → a ≡ At x → b ≡ At y → x < y → At x ≡ earlier_of a b
+unfolding earlier_of
+earlier-left {x = x} {y = y} p q h = rw (p, q) (ap At (omega arith))
+
+-- the second is the earlier one, or as early
+pub earlier-right : {a b : Time} {x y : ℕ} → a ≡ At x → b ≡ At y → y ≤ x → At y ≡ earlier_of a b
+unfolding earlier_of
+earlier-right {x = x} {y = y} p q h = rw (p, q) (ap At (omega arith))
+
+-- the second is none
+pub earlier-alone : {a b : Time} {x : ℕ} → a ≡ At x → b ≡ Never → At x ≡ earlier_of a b
+unfolding earlier_of
+earlier-alone p q = rw (p, q)
+
 -- of three times it does not matter which two are compared first
 pub earlier-assoc : (a b c : Time) → earlier_of (earlier_of a b) c ≡ earlier_of a (earlier_of b c)
 unfolding earlier_of

@@ -35,7 +35,7 @@ use Rattle.index.specs.Asked.{all_of, hit, hits, found}
 use Rattle.index.proofs.Found.{all-hit}
 use Rattle.evaluate.specs.Seen.{log_in, record_in}
 use Rattle.report.specs.Shown.{timely, record_rows, rows_from}
-use Rattle.report.proofs.RowSteps.{rows_of_places, rows_step, rows_none, rows-count}
+use Rattle.report.proofs.RowSteps.{rows_of_places, places-step, rows_none, rows-count}
 
 module _ (t : Terms) (all : Log) (j : ℕ) where
   -- five stages give five rows at most
@@ -122,7 +122,7 @@ module _ (terms log : List ℕ) (j m : ℕ) where
       go (some x) e rest =
           let s = step-read (terms_of terms) log at e in
           let places = places_from n (terms_of terms) log (at + record_length value_width (terms_of terms) (byte_at log at)) in
-          rw (places-more (terms_of terms) log n at s, rows_step terms log j m at places, length-append (record_rows terms log j m at) (rows_of_places terms log j m places))
+          rw (places-more (terms_of terms) log n at s, places-step terms log j m at places, length-append (record_rows terms log j m at) (rows_of_places terms log j m places))
           (omega (arith, record-five at, rest _ s.inside, s.stamped))
 
   -- the records of a log have no more than it has bytes

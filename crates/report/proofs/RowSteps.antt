@@ -4,7 +4,7 @@
 --     is-subject                        whether a record is a subject
 --     record-other, record-shown, record-count
 --                                       the rows of one record under a schema
---     rows_of_places, rows_step, rows_none, rows_all, rows-count
+--     rows_of_places, places-step, rows_step, rows_none, rows_all, rows-count
 --                                      the rows of records at places
 --     schemas-step, schemas-none       the rows of the schemas from a number on
 --     all-rows                         these are the rows of call 4
@@ -37,6 +37,7 @@ use Rattle.std.specs.List.{sum}
 use Rattle.std.proofs.lemmas.List.Sums.{sum_by-cons}
 use Rattle.records.specs.Holds.{record_at, places_in}
 use Rattle.records.proofs.Places.{records-same}
+use Rattle.records.proofs.Steps.{Step}
 use Rattle.evaluate.specs.Seen.{log_in, record_in}
 use Rattle.report.specs.Shown.{entries_in, timely, record_rows, rows_from, schemas_from}
 
@@ -83,9 +84,14 @@ module _ (terms log : List ℕ) where
     record-count is {e} shown = count-parts (λ s. row_in terms log at schema s (entry s e)) stages ∙ sym (ap length (record-shown is shown))
 
     -- the rows of the record at a place come before those of the records after it
-    pub rows_step : (places : List ℕ) → rows_of_places terms log schema m (at ∷ places) ≡ record_rows terms log schema m at ++ rows_of_places terms log schema m places
+    pub places-step : (places : List ℕ) → rows_of_places terms log schema m (at ∷ places) ≡ record_rows terms log schema m at ++ rows_of_places terms log schema m places
     unfolding rows_of_places record_rows timely record_in flat_map
-    rows_step places = strike-append (λ (x : Row). x.time) m _ _
+    places-step places = strike-append (λ (x : Row). x.time) m _ _
+
+    -- the same by a step of a walk
+    pub rows_step : {end : ℕ} → Step (terms_of terms) log at end → rows_from terms log schema m at ≡ record_rows terms log schema m at ++ rows_from terms log schema m end
+    unfolding rows_from record_rows timely record_in flat_map
+    rows_step here = rw here.records (strike-append (λ (x : Row). x.time) m _ _)
 
   module _ (schema m : ℕ) where
     -- where no records are left there are no rows
@@ -104,7 +110,7 @@ module _ (terms log : List ℕ) where
     rows-count (at ∷ places) =
         sum_by-cons (λ n. n) (length (record_rows terms log schema m at)) (map (λ r. length (record_rows terms log schema m r)) places)
         ∙ ap (λ n. length (record_rows terms log schema m at) + n) (rows-count places)
-        ∙ sym (ap length (rows_step schema m at places) ∙ length-append (record_rows terms log schema m at) (rows_of_places terms log schema m places))
+        ∙ sym (ap length (places-step schema m at places) ∙ length-append (record_rows terms log schema m at) (rows_of_places terms log schema m places))
 
   module _ (m j : ℕ) where
     -- the rows of a schema come before those of the schemas after it

@@ -1,2 +1,3 @@
 -- Proofs over the times of clauses.
 pub mod Needs
+pub mod StageLaws

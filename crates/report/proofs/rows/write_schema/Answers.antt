@@ -7,7 +7,7 @@ use Rattle.records.specs.Holds.{Stands, places_in}
 use Rattle.records.specs.Walk.{places_left}
 use Rattle.records.proofs.Places.{places-stand}
 use Rattle.report.specs.Shown.{record_rows}
-use Rattle.report.proofs.RowSteps.{rows_of_places, rows_step, rows_none, rows_all}
+use Rattle.report.proofs.RowSteps.{rows_of_places, places-step, rows_none, rows_all}
 use Rattle.report.proofs.Pages.{left-all, left-room, left-next, left_end}
 use Rattle.report.proofs.rows.write_schema.Goals.{In-Some}
 use Rattle.report.proofs.rows.write_schema.Goals as goal
@@ -22,7 +22,7 @@ next : (c : In-Some) → let a = c.args in
     ≡ record_rows a.terms.now a.log.now a.schema a.moment c.in-Some.subject ++ rows_of_places a.terms.now a.log.now a.schema a.moment (places_left c.next.new.self)
 next c =
     let a = c.args in
-    ap (rows_of_places a.terms.now a.log.now a.schema a.moment) c.in-Some.ensures.steps ∙ rows_step a.terms.now a.log.now a.schema a.moment c.in-Some.subject (places_left c.next.new.self)
+    ap (rows_of_places a.terms.now a.log.now a.schema a.moment) c.in-Some.ensures.steps ∙ places-step a.terms.now a.log.now a.schema a.moment c.in-Some.subject (places_left c.next.new.self)
 
 pub loop-subject-init : goal.loop-subject-init
 loop-subject-init c =
