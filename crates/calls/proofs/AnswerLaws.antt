@@ -75,7 +75,7 @@ packed-split a h =
     λ i. record { number = number i; value = value i }
 
 -- what the library service gets in each case
-pub packed-cases : packed (checked_answer (Ok tt)) ∷ packed (checked_answer (Err CitationTooHigh))
+pub packed-cases : packed (checked_answer {A = Unit {0}} (Ok tt)) ∷ packed (checked_answer {A = Unit {0}} (Err CitationTooHigh))
     ∷ packed (counted_answer (Ok 69)) ∷ packed (counted_answer (Err StampTooLow))
     ∷ packed (counted_answer (Ok 3)) ∷ packed (counted_answer (Err PageTooShort)) ∷ []
     ≡ 0 ∷ 17179869184 ∷ 69 ∷ 51539607552 ∷ 3 ∷ 42949672960 ∷ []

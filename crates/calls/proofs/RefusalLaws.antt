@@ -47,7 +47,7 @@ refusal-none (c ∷ checks) n = go c.holds (refusal-none checks n.1)
     go true ih = (λ e. absurd (omega arith), λ e. absurd (true≢false e.0))
     go false ih = (λ e. (refl, ih.0 e), λ e. ih.1 e.1)
 
--- where a check in front holds, those behind do not count
+-- where a check in front holds, those after it do not count
 pub refusal-ahead : (a b : List Check) → 1 ≤ refusal a → refusal (a ++ b) ≡ refusal a
 unfolding refusal
 refusal-ahead [] b h = absurd (omega arith)
@@ -58,7 +58,7 @@ refusal-ahead (c ∷ a) b h = go c.holds h (refusal-ahead a b)
     go true h ih = refl
     go false h ih = ih h
 
--- where none in front holds, those behind decide
+-- where none in front holds, those after them decide
 pub refusal-behind : (a b : List Check) → NoneHolds a → refusal (a ++ b) ≡ refusal b
 unfolding refusal
 refusal-behind [] b n = refl

@@ -38,8 +38,8 @@ pub record StandingAnswer : Type 0 where
   -- five times not yet with a refusal
   pub entries : Entries
 
--- calls 1 and 2 count nothing (after the table)
-unfoldable pub checked_answer : Result (Unit {0}) Refusal → Answer
+-- calls 1 and 2 count nothing, whatever a check hands on (after the table)
+unfoldable pub checked_answer : {A : Type 0} → Result A Refusal → Answer
 checked_answer (Ok _) = record { number = 0; value = 0 }
 checked_answer (Err x) = record { number = refusal_number x; value = 0 }
 

@@ -11,7 +11,7 @@ mod words;
 ghost use Rattle.std.specs.Prelude.{◌<◌, length};
 
 use case::read_case;
-use console::{Failure, read_up_to};
+use console::{Failure, end, read_up_to};
 use state::State;
 use std::alloc::Global;
 use std::io;
@@ -41,9 +41,5 @@ fn run(rt: &(impl Print + Input), alloc: Global) -> Result<(), Failure> {
 }
 
 fn main(rt: HostRuntime) -> io::Result<()> {
-    match run(&rt, rt.alloc()) {
-        Ok(()) => Ok(()),
-        Err(Failure::BadInput) => println!(rt; "bad cases"),
-        Err(Failure::Io(error)) => Err(error),
-    }
+    end(&rt, run(&rt, rt.alloc()), "bad cases")
 }

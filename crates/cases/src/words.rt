@@ -14,7 +14,7 @@ fn is_blank(byte: u8) -> bool {
 }
 
 // What stands after the spaces, line ends and comments at the front of a text.
-fn behind_blanks(text: &[u8]) -> &[u8]
+fn after_blanks(text: &[u8]) -> &[u8]
     ensures { length result.now ≤ length text.now }
 {
     let mut in_comment = false;
@@ -46,7 +46,7 @@ impl<'a> Words<'a> {
     // The words of a text.
     pub(crate) fn new(text: &'a [u8]) -> Words<'a> {
         Words {
-            rest: behind_blanks(text),
+            rest: after_blanks(text),
         }
     }
 
@@ -74,7 +74,7 @@ impl<'a> Words<'a> {
         if word.is_empty() || !test(word) {
             return None;
         }
-        self.rest = behind_blanks(&self.rest[word.len()..]);
+        self.rest = after_blanks(&self.rest[word.len()..]);
         Some(word)
     }
 

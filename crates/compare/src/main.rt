@@ -16,7 +16,7 @@ ghost use Rattle.std.specs.Prelude.{◌*◌, ◌≤◌, IfOk};
 use answer::Answer;
 use append::append;
 use case::{Case, read_case};
-use console::{Failure, at_end, read_number};
+use console::{Failure, at_end, end, read_number};
 use event_log::check_log;
 use meaning::{Entries, Time};
 use report::{report, standing};
@@ -130,9 +130,5 @@ fn run(rt: &(impl Print + Input), alloc: Global) -> Result<(), Failure> {
 }
 
 fn main(rt: HostRuntime) -> io::Result<()> {
-    match run(&rt, rt.alloc()) {
-        Ok(()) => Ok(()),
-        Err(Failure::BadInput) => println!(rt; "bad cases"),
-        Err(Failure::Io(error)) => Err(error),
-    }
+    end(&rt, run(&rt, rt.alloc()), "bad cases")
 }

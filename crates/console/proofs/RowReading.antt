@@ -88,14 +88,14 @@ pub none_short : (s : List ℕ) → length s < 18 → StartsWithRow s → ⊥
 unfolding row_length
 none_short s short starts =
     let long : length (row_bytes value_width starts.row) ≡ 18 = row-length value_width starts.row in
-    let sum : length (row_bytes value_width starts.row) + length starts.behind ≡ length s = sym (length-append (row_bytes value_width starts.row) starts.behind) ∙ ap length starts.whole in
+    let sum : length (row_bytes value_width starts.row) + length starts.rest ≡ length s = sym (length-append (row_bytes value_width starts.row) starts.rest) ∙ ap length starts.whole in
     omega (arith, short, long, sum)
 
 -- bytes whose first eighteen are no row start with none
 pub none_front : (s : List ℕ) → ((row : Row) → row_bytes value_width row ≡ take 18 s → ⊥) → StartsWithRow s → ⊥
 unfolding row_length
 none_front s none starts =
-    none starts.row (sym (take_at (row_bytes value_width starts.row) starts.behind 18 (row-length value_width starts.row)) ∙ ap (take 18) starts.whole)
+    none starts.row (sym (take_at (row_bytes value_width starts.row) starts.rest 18 (row-length value_width starts.row)) ∙ ap (take 18) starts.whole)
 
 -- the row, written
 pub row_back : (stage : Stage) (s : List ℕ) → length s ≡ 18 → All (λ b. b < 256) s → stage_number stage ≡ get_or s 0 0

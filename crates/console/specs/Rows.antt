@@ -3,7 +3,7 @@ use Rattle.std.specs.Prelude.{◌≡◌, ℕ, List, ◌++◌, flat_map}
 use Rattle.meaning.specs.declared.Row.{Row}
 use Rattle.format.specs.Records.{row_bytes, value_width}
 
--- rows one behind another, as a page has them
+-- rows one after another, as a page has them
 abbrev pub rows_bytes : List Row → List ℕ
 rows_bytes rows = flat_map (row_bytes value_width) rows
 
@@ -11,7 +11,7 @@ rows_bytes rows = flat_map (row_bytes value_width) rows
 pub record StartsWithRow (bytes : List ℕ) : Type 0 where
   -- the row
   pub row : Row
-  -- what stands behind it
-  pub behind : List ℕ
+  -- what stands after it
+  pub rest : List ℕ
   -- together they are the bytes
-  pub whole : row_bytes value_width row ++ behind ≡ bytes
+  pub whole : row_bytes value_width row ++ rest ≡ bytes

@@ -90,6 +90,15 @@ pub fn at_end<R: Read>(input: &mut R) -> bool
     input.read_exact(&mut [0]).is_err()
 }
 
+// How a program ends: where its input is not what it should be, with a line that says so.
+pub fn end(rt: &impl Print, done: Result<(), Failure>, bad: &str) -> io::Result<()> {
+    match done {
+        Ok(()) => Ok(()),
+        Err(Failure::BadInput) => println!(rt; "{bad}"),
+        Err(Failure::Io(error)) => Err(error),
+    }
+}
+
 // The row that eighteen bytes stand for, if the first names a stage.
 fn row_of(bytes: &[u8]) -> Option<Row>
     requires { length bytes.now ≡ 18 }
@@ -117,8 +126,8 @@ pub fn split_row(bytes: &[u8]) -> Option<(Row, &[u8])>
     if bytes.len() < ROW_LENGTH {
         return None;
     }
-    let (row, behind) = bytes.split_at(ROW_LENGTH);
-    Some((row_of(row)?, behind))
+    let (row, rest) = bytes.split_at(ROW_LENGTH);
+    Some((row_of(row)?, rest))
 }
 
 // The rows at the front of a page, as many as are asked for and there, and the bytes after them.
@@ -129,11 +138,11 @@ pub fn split_rows(alloc: Global, page: &[u8], count: usize) -> Result<(Vec<Row>,
     let mut rows = Vec::new(alloc);
     let mut rest = page;
     for _ in 0..count {
-        let Some((row, behind)) = split_row(rest) else {
+        let Some((row, left)) = split_row(rest) else {
             break;
         };
         rows.push(row)?;
-        rest = behind;
+        rest = left;
     }
     Ok((rows, rest))
 }

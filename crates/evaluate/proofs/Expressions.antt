@@ -1,7 +1,7 @@
 -- The times of an expression at a place of terms, by what the code tells of it; and a stage's time from those times of its clauses that it needs.
 --     leaf-times, count-as, and-times, or-times, except-times,  its times, case by case
 --     always-times, nothing-times
---     occurs-times, fails-times                       both times, where it occurs and where it does not
+--     occurs-times                                    both times, where it occurs
 --     stage-whole, stage-here                         a stage's time from its clauses
 -- Assumes nothing.
 use Prim.Native.Nat.{ℕ, ◌+◌, ◌*◌, ◌<◌}
@@ -27,20 +27,12 @@ use Rattle.meaning.proofs.Equation.{time-equation}
 use Rattle.format.proofs.FieldLaws.{neither-silent}
 use Rattle.grammar.specs.Places.{Starts}
 use Rattle.records.specs.Holds.{record_at}
-use Rattle.std.specs.Prelude.{Some}
-use Rattle.grammar.specs.declared.Spot.{Spot}
-use Rattle.fields.specs.declared.Expression.{Expression}
-use Rattle.fields.specs.Decoded.{ExpressionAt}
 use Rattle.terms.proofs.ClauseLaws.{create-here, detach-here, consequent-here}
 use Rattle.times.specs.declared.Needed.{Needed}
 use Rattle.times.specs.declared.Needed.TheVariants.{Occurrence}
 use Rattle.times.specs.NeededTimes.{needed_of, detach_needs, consequent_needs}
 use Rattle.times.proofs.Needs.{stage-needs}
 use Rattle.evaluate.specs.Seen.{log_in, record_in, stage_in, under}
-
--- what is known of an expression, as the code told it
-pub expression-as : (s : List ℕ) (spot : Spot) {r : Expression} → ExpressionAt s spot (Some r) → (x : Expression) → r ≡ x → ExpressionAt s spot (Some x)
-expression-as s spot h x e = rw e at h
 
 module _ (terms log : List ℕ) (k subject : ℕ) where
   -- the times of an expression, for a clause of rank k and the subject
@@ -90,11 +82,6 @@ module _ (terms log : List ℕ) (k subject : ℕ) (x : Expr Atom) where
   unfolding under
   occurs-times e = ap₂ (λ (o f : Time). record { occurs = o; fails = f }) (sym e) (sym (occurs-alone _ _ _ _ x e))
 
-  -- of one that does not occur
-  pub fails-times : {f : Time} → (times_in terms log k subject x).occurs ≡ Never → f ≡ (times_in terms log k subject x).fails
-      → record { occurs = Never; fails = f } ≡ times_in terms log k subject x
-  fails-times e d = ap₂ (λ (o f : Time). record { occurs = o; fails = f }) (sym e) d
-
 -- the times of the clause of rank k, as it is read at its start
 abbrev pub clause_in : List ℕ → List ℕ → List ℕ → ℕ → ℕ → Times
 clause_in terms log starts subject k = times_in terms log k subject (expr_at terms (get_or starts k 0) expr_limit)
@@ -115,3 +102,6 @@ module _ (terms log starts : List ℕ) (subject j : ℕ) (laid : Starts terms (f
       → u ≡ needed_of consequent (clause_in terms log starts subject (3 * j + 2))
       → time ≡ stage_in terms log subject s j
   stage-here s e type stamp d q c r u = rw (e, c, r, u, d, q, stage-needs) (stage-whole s type stamp)
+
+-- what the search for the proofs of `occurrence` and `failure` cites
+pub ruleset expressions = (leaf-times, count-as, and-times, or-times, except-times, always-times, nothing-times)

@@ -20,6 +20,7 @@ use Rattle.format.specs.Bytes.{byte_at}
 use Rattle.format.specs.Fields.{terms_of}
 use Rattle.format.specs.Records.{value_width}
 use Rattle.meaning.proofs.Equation.{cited-below, cited-above}
+use Rattle.records.proofs.Steps.{stands-stamped}
 use Rattle.format.proofs.WalkLaws.{kind-here}
 use Rattle.records.specs.Holds.{record_at}
 use Rattle.evaluate.specs.Seen.{log_in, record_in, stage_in, under}
@@ -63,3 +64,6 @@ module _ (terms log : List ℕ) (k subject at : ℕ) (event : Event) {found : Bo
       → t ≡ happens terms log k subject event (record_in terms log at)
   unfolding time_by stage_in
   happens-stage {s} {j} f v h e = rw (happens-by f, v) (e ∙ sym (cited-below k _ s j _ h))
+
+-- what the search for the proof of `happening` cites
+pub ruleset happenings = (happens-not, happens-kind, happens-above, happens-stage, stands-stamped)

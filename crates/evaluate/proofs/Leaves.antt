@@ -193,3 +193,12 @@ module _ (terms log : List ℕ) (k subject : ℕ) where
               ap₂ (λ (o f : Time). record { occurs = o; fails = f })
               (sym (count-time (λ n. ltb x.threshold n) ∙ rw (le-ltb x.threshold n m) (never-settled from.since to.since)))
               (sym (count-time (λ n. leb n x.threshold) ∙ rw (le-leb n x.threshold m, q, p)))
+
+-- what the search for the proofs of `known_bound` and `first`, of `leaf_occurrence`, of `leaf_failure` and of `count_times` cites
+pub ruleset bounds = (plain_known, open-known, minus-known, first-here)
+
+pub ruleset occurrences = (occurs-no-lower, occurs-no-upper)
+
+pub ruleset failures = (fails-no-upper, fails-unreached, fails-no-lower)
+
+pub ruleset counts = (count-no-lower, count-no-upper)

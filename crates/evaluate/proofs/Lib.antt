@@ -1,4 +1,5 @@
 -- Laws that the proofs of evaluation cite.
+pub mod Weights
 pub mod Happens
 pub mod Scan
 pub mod Leaves

@@ -68,3 +68,6 @@ module _ (terms log : List ℕ) (k subject : ℕ) (l u : Edge) (event : Event) w
   pub scan-end : {first : Time} {left : List ℕ} → left ≡ [] → Scanned first left → first ≡ under first_within terms log k subject l u event
   unfolding under first_within log_in
   scan-end = scans.scan-end terms log gathers
+
+-- what the search for the proof of `first_within` cites
+pub ruleset walks = (scan-none, scan-end)

@@ -1,2 +1,3 @@
 -- What evaluation promises, over the model's meaning.
 pub mod Seen
+pub mod Asked

@@ -1,5 +1,5 @@
 -- The model's meaning of what bytes hold, for a clause of a rank and the subject at a place of the log. Assumes nothing: these are definitions.
-use Rattle.std.specs.Prelude.{ℕ, ◌+◌, ◌*◌, ◌<◌, List, length, Option, Some, None}
+use Rattle.std.specs.Prelude.{ℕ, List, Option, Some, None}
 use Rattle.meaning.specs.declared.Time.{Time}
 use Rattle.meaning.specs.declared.Time.TheVariants.{At, Never}
 use Rattle.meaning.specs.declared.Stage.{Stage}
@@ -7,12 +7,9 @@ use Rattle.meaning.specs.declared.Bound.{Bound}
 use Rattle.meaning.specs.Terms.{Terms}
 use Rattle.meaning.specs.Log.{Record, Log}
 use Rattle.meaning.specs.Meaning.{StageTimes, cited, edge_of, stage_time}
-use Rattle.format.specs.Grammar.{file_of}
 use Rattle.format.specs.Fields.{terms_of}
 use Rattle.format.specs.Records.{value_width, records_in}
-use Rattle.records.specs.Holds.{Stands, record_at}
-use Rattle.evaluate.specs.declared.Clause.{Clause}
-use Rattle.evaluate.specs.declared.Clauses.{Clauses}
+use Rattle.records.specs.Holds.{record_at}
 use Rattle.evaluate.specs.declared.Known.{Known}
 
 -- the records in the bytes of a log
@@ -35,18 +32,3 @@ under rule terms log k subject = rule (cited k (stage_time (terms_of terms) (log
 unfoldable pub known_as : Bound → Time → Option Known
 known_as bound (At g) = Some (record { edge = edge_of bound g; since = g })
 known_as bound Never = None
-
--- a clause of the terms, and a subject that stands in the log
-pub record Posed (terms log : List ℕ) (clause : Clause) : Type 0 where
-  -- the clause is one of three for each schema
-  pub ranked : clause.rank < 3 * length (file_of terms).schemas
-  -- the subject's record
-  pub stands : Stands (terms_of terms) log clause.subject
-
--- the three clauses of a schema, in rank (Citation)
-abbrev pub clauses_of : ℕ → ℕ → Clauses
-clauses_of subject j = record {
-  create = record { subject = subject; rank = 3 * j };
-  detach = record { subject = subject; rank = 3 * j + 1 };
-  consequent = record { subject = subject; rank = 3 * j + 2 };
-}

@@ -1,11 +1,12 @@
--- What stands at a place of terms, by the byte there and, of a connective, by what the code reads behind it.
+-- What stands at a place of terms, by the byte there and, of a connective, by what the code reads after it.
 --     no_items, no_kind, no_body      nothing is read
---     first-unread, second-unread     the same where an operand of a connective is not read
---     both_read                       the operands of a connective
+--     first-spot                      where a connective's first operand stands
+--     first-unread, second-unread     nothing is read where an operand of a connective is not
+--     joined_at                       a connective of two operands that are
 -- Assumes nothing.
 use Prim.Native.Nat.{ℕ, suc, ◌+◌, ◌-◌, ◌≤◌, ◌<◌}
 use native.Mathlib.Omega.{arith}
-use mathlib.Core.Path.{◌≡◌, refl, sym, ◌∙◌}
+use mathlib.Core.Path.{◌≡◌, refl, ap, sym, ◌∙◌}
 use mathlib.Core.List.{List}
 use mathlib.Core.Logic.{◌⊎◌, inl, inr}
 use mathlib.Core.Option.{Option, none, some}
@@ -18,18 +19,18 @@ use Rattle.format.specs.Fields.{neither, leaf_from, expr_at}
 use Rattle.format.proofs.ReaderLaws.{none-some, found-eq}
 use Rattle.format.proofs.GrammarLaws.{E, size-positive}
 use Rattle.format.proofs.PlaceLaws.{byte_inside, item-short}
-use Rattle.format.proofs.ExprLaws.{leaf-item, count-item, expr-leaf, Joining, and-joins, or-joins, except-joins, joins, Parts, LeafItem, read-cut, join_is, expr-some, expr-none, expr-join}
+use Rattle.format.proofs.ExprLaws.{leaf-item, count-item, expr-leaf, Joining, joins, Parts, LeafItem, read-cut, join_is, expr-some, expr-none, expr-join}
 use Rattle.std.specs.Prelude as std
 use Rattle.grammar.specs.declared.Item.{Item}
 use Rattle.grammar.specs.declared.Item.TheVariants.{Kind, Schema, Leaf, And, Or, Except, Always, Count}
 use Rattle.grammar.specs.declared.Spot.{Spot}
 use Rattle.grammar.specs.Items.{code_of, body_of}
-use Rattle.grammar.specs.Found.{FoundExpr}
-use Rattle.grammar.proofs.Steps.{expr-no-items, expr-no-kind}
-use Rattle.fields.specs.Decoded.{LeafAt, leaf_item, JoinedAt, OperandsAt}
+use Rattle.grammar.specs.Found.{after_item, FoundExpr}
+use Rattle.grammar.proofs.Steps.{Connects, expr-no-items, expr-no-kind}
+use Rattle.fields.specs.Decoded.{LeafAt, leaf_item, JoinedAt}
 
 -- what the reader of expressions promises, whatever depth the model's is allowed
-abbrev Reads : ℕ → List ℕ → ℕ → std.Option Spot → Type 0
+abbrev pub Reads : ℕ → List ℕ → ℕ → std.Option Spot → Type 0
 Reads items s at r = (n : ℕ) → items ≤ n → FoundExpr n items s at r
 
 -- the kind byte of an item is not what stands past the end
@@ -42,6 +43,24 @@ some-code Or = omega arith
 some-code Except = omega arith
 some-code Always = omega arith
 some-code Count = omega arith
+
+-- a connective's body is empty
+pub connects-body : {k : Item} → Connects k → body_of k ≡ 0
+connects-body (inl e) = ap body_of e
+connects-body (inr (inl e)) = ap body_of e
+connects-body (inr (inr e)) = ap body_of e
+
+-- the last of the three
+pub is-except : {k : Item} → Connects k → (k ≡ And → ⊥) → (k ≡ Or → ⊥) → k ≡ Except
+is-except (inl e) h g = absurd (h e)
+is-except (inr (inl e)) h g = absurd (g e)
+is-except (inr (inr e)) h g = e
+
+-- its first operand stands right after its byte
+pub first-spot : {k : Item} (spot : Spot) → Connects k → after_item spot k ≡ record { at = spot.at + 1; items = spot.items - 1 }
+first-spot {k} spot is =
+    let place : spot.at + 1 + body_of k ≡ spot.at + 1 = omega (arith, connects-body is) in
+    ap (λ (n : ℕ). record { at = n; items = spot.items - 1 }) place
 
 module _ (s : List ℕ) (at items : ℕ) where
   -- no items are left
@@ -109,7 +128,7 @@ module _ (s : List ℕ) (at items : ℕ) where
         none-some (sym (more second.items (omega arith)) ∙ (rw (count, same.1) at p.second))
 
     -- a connective of the two
-    joined_at : {kind : ℕ} {join : E → E → E} {joined : Expr Atom → Expr Atom → Expr Atom} → Joining kind join joined → 0 < items
+    pub joined_at : {kind : ℕ} {join : E → E → E} {joined : Expr Atom → Expr Atom → Expr Atom} → Joining kind join joined → 0 < items
         → (end : Spot) → FoundExpr second.items second.items s second.at (std.Some end) → byte_at s at ≡ kind
         → JoinedAt joined s (record { at = at; items = items }) (record { at = at + 1; items = items - 1 }) second
     joined_at is h end b k =
@@ -122,10 +141,3 @@ module _ (s : List ℕ) (at items : ℕ) where
           omega (arith, a.3, a.4),
           refl,
         )
-
-    -- both are read, whichever of the three connectives it is
-    pub both_read : 0 < items → (end : Spot) → Reads second.items s second.at (std.Some end)
-        → OperandsAt s (record { at = at; items = items }) (std.Some (record { at = at + 1; items = items - 1 }, second))
-    both_read h end more =
-        let b : FoundExpr second.items second.items s second.at (std.Some end) = more second.items (omega arith) in
-        (joined_at and-joins h end b, joined_at or-joins h end b, joined_at except-joins h end b)

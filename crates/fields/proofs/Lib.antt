@@ -1,3 +1,4 @@
--- Proofs over the readings of leaves and expressions.
+-- Proofs over the readings of leaves, expressions and schemas.
 pub mod Leaves
 pub mod Expressions
+pub mod Schemas

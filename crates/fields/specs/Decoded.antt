@@ -47,14 +47,6 @@ JoinedAt join s spot first second =
     × (first.items < spot.items) × (second.items < spot.items)
     × (spot.at < length s) × (first ≡ record { at = spot.at + 1; items = spot.items - 1 })
 
--- the operands of the connective at a place, whichever of the three it is; none, where the whole cannot be read
-abbrev pub OperandsAt : List ℕ → Spot → Option (Spot × Spot) → Type 0
-OperandsAt s spot (Some p) =
-    (byte_at s spot.at ≡ 4 → JoinedAt and s spot p.0 p.1)
-    × (byte_at s spot.at ≡ 5 → JoinedAt or s spot p.0 p.1)
-    × (byte_at s spot.at ≡ 6 → JoinedAt except s spot p.0 p.1)
-OperandsAt s spot None = 4 ≤ byte_at s spot.at → byte_at s spot.at ≤ 6 → expr_at s spot.at spot.items ≡ leaf neither
-
 -- what the model reads at a place, case by case
 abbrev pub ExpressionAt : List ℕ → Spot → Option Expression → Type 0
 ExpressionAt s spot (Some (expression.Leaf x)) = expr_at s spot.at spot.items ≡ leaf x

@@ -1,15 +1,19 @@
 // What the bodies of items hold: kinds, events, bounds, leaves and counts at a place of terms, and refusal 3 at each of them.
 #![tactic(auto)]
 
+mod kinds;
+mod places;
+
 ghost use Rattle.std.specs.Prelude.{◌≡◌, ◌+◌, ◌*◌, ◌<◌, ◌≤◌, length, take, drop};
-ghost use Rattle.meaning.specs.Terms.{Terms, kind_at};
+ghost use Rattle.meaning.specs.Terms.{Terms};
 ghost use Rattle.meaning.specs.Log.{carries};
-ghost use Rattle.format.specs.Grammar.{file_of};
-ghost use Rattle.format.specs.Fields.{norm_type_of, event_of, bound_of, happening_of, count_of, neither, leaf_from, kind_wrong, head_wrong, event_wrong, bound_wrong, happening_wrong, count_wrong, leaf_wrong, terms_of};
-ghost use Rattle.fields.specs.Decoded.{decoded, Signs, LeafAt, leaf_item, OperandsAt, ExpressionAt};
+ghost use Rattle.format.specs.Fields.{norm_type_of, event_of, bound_of, happening_of, count_of, neither, leaf_from, kind_wrong, event_wrong, bound_wrong, happening_wrong, count_wrong, leaf_wrong};
+ghost use Rattle.fields.specs.Decoded.{decoded, Signs, LeafAt, leaf_item, ExpressionAt};
 
 use grammar::{Item, Spot, item_at, read_expression, u16_at, u32_at};
+pub use kinds::Kinds;
 use meaning::{Atom, Bound, CountLeaf, Event, Leaf, NormType, Stage};
+pub use places::Places;
 
 // The attributes that a mask has room for.
 pub const ATTRIBUTES: u8 = 16;
@@ -21,7 +25,7 @@ pub const OFFSET_LIMIT: u32 = 2147483647;
 pub const KIND_FORM: u8 = 0;
 
 // The signs of a bound.
-#[derive(Clone, Copy)]
+#[derive(Clone, Copy, Debug, PartialEq, Eq)]
 enum Sign {
     Plain = 0,
     Plus = 1,
@@ -30,7 +34,7 @@ enum Sign {
 }
 
 // A byte that is no bound's sign.
-#[derive(Clone, Copy)]
+#[derive(Clone, Copy, Debug, PartialEq, Eq)]
 struct UnknownSign(u8);
 
 impl TryFrom<u8> for Sign {
@@ -50,7 +54,7 @@ impl TryFrom<u8> for Sign {
 }
 
 // What an expression at a place is: a leaf or a count; a connective, with the spots of its two operands; or always.
-#[derive(Clone, Copy)]
+#[derive(Clone, Copy, Debug, PartialEq, Eq)]
 pub enum Expression {
     Leaf(Atom),
     And(Spot, Spot),
@@ -64,30 +68,6 @@ pub fn carries(mask: u16, attribute: u8) -> bool
     ensures { result ≡ carries mask attribute }
 {
     attribute < ATTRIBUTES && (mask >> attribute) & 1 == 1
-}
-
-// The mask of a kind; past the last kind it is empty.
-pub fn mask_of(terms: &[u8], kinds: usize, kind: u8) -> u16
-    requires { kinds ≡ length (file_of terms.now).kinds }
-    ensures { result ≡ (kind_at (terms_of terms.now) kind).mask }
-{
-    let k = kind as usize;
-    if kinds <= k {
-        return 0;
-    }
-    u16_at(terms, 5 * k + 2)
-}
-
-// The key attribute of a kind; past the last kind it is 0.
-pub fn key_of(terms: &[u8], kinds: usize, kind: u8) -> u8
-    requires { kinds ≡ length (file_of terms.now).kinds }
-    ensures { result ≡ (kind_at (terms_of terms.now) kind).key }
-{
-    let k = kind as usize;
-    if kinds <= k {
-        return 0;
-    }
-    terms[5 * k + 4]
 }
 
 // The event of a form and a number, if the form names one.
@@ -111,12 +91,11 @@ fn bound_at(terms: &[u8], at: usize) -> Option<Bound>
     let Ok(sign) = Sign::try_from(terms[at]) else {
         return None;
     };
-    let event = event_of(terms[at + 1], terms[at + 2]);
     let offset = u32_at(terms, at + 3);
     match sign {
         Sign::Plain => Some(Bound::Plain(offset)),
-        Sign::Plus => Some(Bound::Plus(event?, offset)),
-        Sign::Minus => Some(Bound::Minus(event?, offset)),
+        Sign::Plus => Some(Bound::Plus(event_of(terms[at + 1], terms[at + 2])?, offset)),
+        Sign::Minus => Some(Bound::Minus(event_of(terms[at + 1], terms[at + 2])?, offset)),
         Sign::Open => Some(Bound::Open),
     }
 }
@@ -177,20 +156,6 @@ pub fn leaf_at(terms: &[u8], at: usize, item: Item) -> Atom
     }
 }
 
-// The operands of the connective at a place: both are read.
-fn read_operands(terms: &[u8], spot: Spot) -> Option<(Spot, Spot)>
-    requires { (spot.at < length terms.now) × (0 < spot.items) }
-    ensures { OperandsAt terms.now spot result }
-{
-    let first = Spot {
-        at: spot.at + 1,
-        items: spot.items - 1,
-    };
-    let second = read_expression(terms, first)?;
-    let _ = read_expression(terms, second)?;
-    Some((first, second))
-}
-
 // The expression of at most so many items at a place, by its item byte; none, if it cannot be read.
 pub fn expression_at(terms: &[u8], spot: Spot) -> Option<Expression>
     ensures { ExpressionAt terms.now spot result }
@@ -199,24 +164,22 @@ pub fn expression_at(terms: &[u8], spot: Spot) -> Option<Expression>
         return None;
     }
     let item = item_at(terms, spot.at)?;
+    let rest = spot.after(item);
     match item {
         Item::Leaf | Item::Count => {
-            if terms.len() - spot.at <= item.body() {
+            if terms.len() < rest.at {
                 return None;
             }
             Some(Expression::Leaf(leaf_at(terms, spot.at, item)))
         }
-        Item::And => {
-            let (first, second) = read_operands(terms, spot)?;
-            Some(Expression::And(first, second))
-        }
-        Item::Or => {
-            let (first, second) = read_operands(terms, spot)?;
-            Some(Expression::Or(first, second))
-        }
-        Item::Except => {
-            let (first, second) = read_operands(terms, spot)?;
-            Some(Expression::Except(first, second))
+        Item::And | Item::Or | Item::Except => {
+            let second = read_expression(terms, rest)?;
+            let _ = read_expression(terms, second)?;
+            match item {
+                Item::And => Some(Expression::And(rest, second)),
+                Item::Or => Some(Expression::Or(rest, second)),
+                _ => Some(Expression::Except(rest, second)),
+            }
         }
         Item::Always => Some(Expression::Always),
         Item::Kind | Item::Schema => None,
@@ -238,29 +201,10 @@ pub fn kind_wrong(terms: &[u8], i: usize) -> bool
 {
     let number = terms[5 * i + 1];
     let mask = u16_at(terms, 5 * i + 2);
-    if number as usize != i || mask == 0 {
+    if usize::from(number) != i || mask == 0 {
         return true;
     }
     !carries(mask, terms[5 * i + 4])
-}
-
-// Refusal 3 at the item 02 whose body starts at a place: type, subject kind, parties.
-pub fn head_wrong(terms: &[u8], kinds: usize, at: usize) -> bool
-    requires { (kinds ≡ length (file_of terms.now).kinds) × (at + 4 ≤ length terms.now) }
-    ensures { result ≡ head_wrong (terms_of terms.now) (take 4 (drop at terms.now)) }
-{
-    if NormType::try_from(terms[at]).is_err() {
-        return true;
-    }
-    let subject = terms[at + 1];
-    if kinds <= subject as usize {
-        return true;
-    }
-    let mask = mask_of(terms, kinds, subject);
-    if !carries(mask, terms[at + 2]) {
-        return true;
-    }
-    !carries(mask, terms[at + 3])
 }
 
 // Refusal 3 at an event: no such form, or a kind that is not declared.
@@ -268,7 +212,7 @@ fn event_wrong(kinds: usize, form: u8, number: u8) -> bool
     ensures { (t : Terms) → kinds ≡ length t.kinds → result ≡ event_wrong t form number }
 {
     match event_of(form, number) {
-        Some(Event::Kind(kind)) => kinds <= kind as usize,
+        Some(Event::Kind(kind)) => kinds <= usize::from(kind),
         Some(Event::StageOf(_, _)) => false,
         None => true,
     }
@@ -325,7 +269,7 @@ fn count_wrong(terms: &[u8], kinds: usize, at: usize) -> bool
     ensures { (t : Terms) → kinds ≡ length t.kinds → result ≡ count_wrong t (take 20 (drop at terms.now)) }
 {
     let kind = terms[at + 1];
-    if kinds <= kind as usize {
+    if kinds <= usize::from(kind) {
         return true;
     }
     if terms[at + 6] == Sign::Open as u8 {

@@ -6,7 +6,7 @@
 --     read-leaf, read-cut, read-always, read_join, read_none   what is read at a place, by the byte there
 --     read-inside, leaf-is, always-is, join_is     the way back: what was read there, by the byte
 --     expr-some, expr-none, expr-clause   what stands at a place, by what is read there
---     expr-leaf, expr-always, expr-join   the same by the byte there and, of a connective, by what was read behind it
+--     expr-leaf, expr-always, expr-join   the same by the byte there and, of a connective, by what was read after it
 -- Assumes nothing.
 use Prim.Native.Nat.{ℕ, zero, suc, ◌+◌, ◌-◌, ◌≤◌, ◌<◌}
 use native.Mathlib.Omega.{arith}
@@ -67,7 +67,7 @@ or-none (some a) = refl
 pub record Joining (kind : ℕ) (join : E → E → E) (joined : Expr Atom → Expr Atom → Expr Atom) : Type 0 where
   -- in bytes, items and leaves
   pub is : Connective kind join
-  -- behind its byte stand its operands
+  -- after its byte stand its operands
   pub reads : (n items : ℕ) (u : List ℕ) → read_expr (suc n) (suc items) (kind ∷ u) ≡ read_both (read_expr n) items join u
   -- in meaning
   pub from : (a b : E) → expr_from (join a b) ≡ joined (expr_from a) (expr_from b)
@@ -160,7 +160,7 @@ read-inside n items s at x t e =
     let found = expr-read n items (drop at s) x t e in
     omega (arith, ap length found.0, length-append (expr_bytes x) t, length-drop at s, expr-long x found.2)
 
--- a connective at a place, by what was read behind its byte
+-- a connective at a place, by what was read after its byte
 pub read_join : {kind : ℕ} {join : E → E → E} → Connective kind join
     → (n m k : ℕ) (s : List ℕ) (at items : ℕ) (a b : E) (u t : List ℕ) → items ≤ k → byte_at s at ≡ kind
     → read_expr n (items - 1) (drop (at + 1) s) ≡ some (a, u) → read_expr m (items - 1 - size a) u ≡ some (b, t) → read_expr k items (drop at s) ≡ some (join a b, t)
@@ -187,19 +187,19 @@ read_none (suc n) (suc items) s at out =
       item-other 8 19 s at (λ b. out (omega arith) (omega arith)),
     )
 
--- what was read at a connective's byte: its operands, one behind the other
+-- what was read at a connective's byte: its operands, one after the other
 pub record Parts (join : E → E → E) (items : ℕ) (s : List ℕ) (at : ℕ) (x : E) (t : List ℕ) : Type 0 where
   -- the first operand
   pub a : E
   -- the second
   pub b : E
-  -- the bytes behind the first
+  -- the bytes after the first
   pub u : List ℕ
   -- x joins them
   pub is : x ≡ join a b
-  -- the first stands behind the byte
+  -- the first stands after the byte
   pub first : read_expr (items - 1) (items - 1) (drop (at + 1) s) ≡ some (a, u)
-  -- the second behind the first
+  -- the second after the first
   pub second : read_expr (items - 1 - size a) (items - 1 - size a) u ≡ some (b, t)
 
 -- something is read only where depth and items are left

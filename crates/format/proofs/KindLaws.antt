@@ -28,7 +28,7 @@ use Rattle.meaning.proofs.MemberLaws.{any_of-none, numbers-mem}
 use Rattle.format.proofs.ReaderLaws.{item-sound, many-induction}
 use Rattle.format.proofs.PlaceLaws.{byte-within, byte-first, number-within}
 
--- each body that is read stands five bytes behind the one before it
+-- each body that is read stands five bytes after the one before it
 abbrev Placed : List ℕ → List (List ℕ) → Type 0
 Placed s xs = (k : ℕ) → k < length xs → (get_or xs k [] ≡ take 4 (drop (5 * k + 1) s)) × (5 * k + 5 ≤ length s)
 

@@ -1,8 +1,8 @@
--- Bytes at a place: what a reader finds behind `drop` and within `take`, said of the whole bytes and a place in them.
+-- Bytes at a place: what a reader finds after `drop` and within `take`, said of the whole bytes and a place in them.
 --     byte-drop, byte-front, byte-take, byte-within, byte-first   the byte at a place of a part of the bytes
 --     number-drop, number-take, number-within                     the number there
 --     number_step, number-none                                    a number byte by byte, past the end too
---     number-two, number-four                                     the two sums that code computes
+--     number_two, number_four                                     the two sums that code computes
 --     left_over, byte_inside                                      whether a place is inside the bytes
 --     drop-take, drop_here, item-…                                the front of the bytes from a place on, and the item that stands there or does not
 --     bound-here, leaf_by, count_by, …-here, …-wrong-here            a leaf's fields, and refusal 3 of them, by the bytes of the whole
@@ -27,14 +27,14 @@ use Rattle.meaning.specs.declared.Atom.TheVariants.{Happens, Counts}
 use Rattle.meaning.specs.Lists.{is_empty}
 use Rattle.meaning.specs.Terms.{Terms}
 use Rattle.format.specs.Bytes.{number_of, byte_at, number_at, item}
-use Rattle.format.specs.Fields.{event_of, bound_of, happening_of, count_of, leaf_of, neither, leaf_from, offset_limit, event_wrong, bound_wrong, happening_wrong, count_wrong, leaf_wrong}
+use Rattle.format.specs.Fields.{event_of, bound_of, happening_of, count_of, leaf_of, neither, leaf_from, offset_limit, event_wrong, bound_wrong, count_wrong, leaf_wrong}
 
--- a byte behind a place
+-- a byte after a place
 pub byte-drop : (s : List ℕ) (at i : ℕ) → byte_at (drop at s) i ≡ byte_at s (at + i)
 unfolding byte_at
 byte-drop s at i = get_or-drop at s i 0
 
--- the byte right behind it
+-- the byte right after it
 pub byte-front : (s : List ℕ) (at : ℕ) → byte_at (drop at s) 0 ≡ byte_at s at
 byte-front s at = byte-drop s at 0 ∙ ap (byte_at s) (add-zero at)
 
@@ -47,12 +47,12 @@ byte-take n s i h = get_or-take n s i 0 h
 pub byte-within : (s : List ℕ) (at i n : ℕ) → i < n → byte_at (take n (drop at s)) i ≡ byte_at s (at + i)
 byte-within s at i n h = byte-take n (drop at s) i h ∙ byte-drop s at i
 
--- a number behind a place
+-- a number after a place
 pub number-drop : (w : ℕ) (s : List ℕ) (at i : ℕ) → number_at w (drop at s) i ≡ number_at w s (at + i)
 unfolding number_at
 number-drop w s at i = ap (λ t. number_of (take w t)) (drop-drop i at s)
 
--- the front of what is behind m elements
+-- the front of what is after m elements
 pub drop-take : (m k : ℕ) (s : List ℕ) → drop m (take (m + k) s) ≡ take k (drop m s)
 drop-take zero k s = ap (λ (i : ℕ). take i s) (zero-add k)
 drop-take (suc m) k [] = ap (drop (suc m)) (take-nil (suc m + k)) ∙ sym (take-nil k)
@@ -69,7 +69,7 @@ number-take w n s i h =
 pub number-within : (w : ℕ) (s : List ℕ) (at i n : ℕ) → i + w ≤ n → number_at w (take n (drop at s)) i ≡ number_at w s (at + i)
 number-within w s at i n h = number-take w n (drop at s) i h ∙ number-drop w s at i
 
--- a number is its low byte and the number behind it; past the end all of them are 0
+-- a number is its low byte and the number after it; past the end all of them are 0
 pub number_step : (w : ℕ) (s : List ℕ) (at : ℕ) → number_at (suc w) s at ≡ byte_at s at + 256 * number_at w s (suc at)
 unfolding number_at byte_at number_of
 number_step w [] zero = rw (take-nil w)
@@ -83,15 +83,15 @@ unfolding number_at number_of
 number-none s at = refl
 
 -- two bytes, as code adds them up
-pub number-two : (s : List ℕ) (at : ℕ) → number_at 2 s at ≡ byte_at s at + byte_at s (at + 1) * 256
-number-two s at = simp towards_suc (omega (arith, number_step 1 s at, number_step 0 s (suc at), number-none s (suc (suc at))))
+pub number_two : (s : List ℕ) (at : ℕ) → number_at 2 s at ≡ byte_at s at + byte_at s (at + 1) * 256
+number_two s at = simp towards_suc (omega (arith, number_step 1 s at, number_step 0 s (suc at), number-none s (suc (suc at))))
 
 -- four bytes, as code adds them up
-pub number-four : (s : List ℕ) (at : ℕ)
+pub number_four : (s : List ℕ) (at : ℕ)
     → number_at 4 s at ≡ byte_at s at + byte_at s (at + 1) * 256 + byte_at s (at + 2) * 65536 + byte_at s (at + 3) * 16777216
-number-four s at = simp towards_suc (omega (arith, number_step 3 s at, number_step 2 s (suc at), number_step 1 s (suc (suc at)), number_step 0 s (suc (suc (suc at))), number-none s (suc (suc (suc (suc at))))))
+number_four s at = simp towards_suc (omega (arith, number_step 3 s at, number_step 2 s (suc at), number_step 1 s (suc (suc at)), number_step 0 s (suc (suc (suc at))), number-none s (suc (suc (suc (suc at))))))
 
--- the bytes from a place on: the byte there, then those behind it
+-- the bytes from a place on: the byte there, then those after it
 pub drop_here : (s : List ℕ) (at : ℕ) → at < length s → drop at s ≡ byte_at s at ∷ drop (at + 1) s
 unfolding byte_at
 drop_here s at h = rw add-one (drop-cons s at 0 h)
@@ -229,21 +229,7 @@ count-here s at b =
       bound-here s at 13 20 (omega arith),
     )
 
--- refusal 3 of an item 03
-pub leaf-wrong-here : (terms : Terms) (s : List ℕ) (at : ℕ) → byte_at s at ≡ 3 → leaf_wrong terms (take 17 (drop at s))
-    ≡ (event_wrong terms (byte_at s (at + 1)) (byte_at s (at + 2)) || eqb (byte_at s (at + 3)) 3 || bound_wrong terms s (at + 3) || bound_wrong terms s (at + 10))
-unfolding leaf_wrong happening_wrong
-leaf-wrong-here terms s at b =
-    rw (
-      byte-first s at 17 (omega arith) ∙ b,
-      byte-within s at 1 17 (omega arith),
-      byte-within s at 2 17 (omega arith),
-      byte-within s at 3 17 (omega arith),
-      bound-wrong-here terms s at 3 17 (omega arith),
-      bound-wrong-here terms s at 10 17 (omega arith),
-    )
-
--- and of an item 08
+-- refusal 3 of an item 08
 pub count-wrong-here : (terms : Terms) (s : List ℕ) (at : ℕ) → byte_at s at ≡ 8 → leaf_wrong terms (take 20 (drop at s))
     ≡ (leb (length terms.kinds) (byte_at s (at + 1)) || eqb (byte_at s (at + 6)) 3 || bound_wrong terms s (at + 6) || eqb (byte_at s (at + 13)) 3 || bound_wrong terms s (at + 13))
 unfolding leaf_wrong count_wrong

@@ -72,7 +72,7 @@ module _ {A : Type 0} (reader : Reader A) where
   unfolding many
   many-some n s e = rw (e, many)
 
-  -- what holds of nothing read, and of one thing more where it holds of what is read behind it, holds of all that is read
+  -- what holds of nothing read, and of one thing more where it holds of what is read after it, holds of all that is read
   pub many-induction : (Good : ℕ → List ℕ → List A → List ℕ → Type 0) → ((n : ℕ) (s : List ℕ) → Good n s [] s)
       → ((n : ℕ) (s : List ℕ) (x : A) (t : List ℕ) (xs : List A) (u : List ℕ) → reader s ≡ some (x, t) → Good n t xs u → Good (suc n) s (x ∷ xs) u)
       → (n : ℕ) (s : List ℕ) → Good n s (many reader n s).0 (many reader n s).1

@@ -47,13 +47,13 @@ row-timed w x h =
     rw (row-split, drop_at (row_head w x) (bytes_of 4 x.time) (2 + 3 * w) (head_length w x), take_all 4 (bytes_of 4 x.time) (omega (arith, bytes-length 4 x.time)))
     (bytes-number 4 x.time h)
 
--- rows one behind another have that many times the length of one
+-- rows one after another have that many times the length of one
 pub rows-length : (w : ℕ) (rows : List Row) → length (flat_map (row_bytes w) rows) ≡ row_length w * length rows
 unfolding flat_map
 rows-length w [] = omega arith
 rows-length w (x ∷ rows) = rw (length-append, row-length, rows-length w rows, mul-suc) (omega arith)
 
--- rows one behind another, whatever follows, are told apart again
+-- rows one after another, whatever follows, are told apart again
 pub rows_in : (w : ℕ) (rows : List Row) (t : List ℕ) → pieces (row_length w) (length rows) (flat_map (row_bytes w) rows ++ t) ≡ map (row_bytes w) rows
 unfolding pieces flat_map
 rows_in w [] t = refl

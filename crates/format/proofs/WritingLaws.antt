@@ -11,6 +11,7 @@ use Rattle.meaning.specs.declared.Bound.{Bound}
 use Rattle.meaning.specs.declared.Atom.{Atom}
 use Rattle.meaning.specs.declared.Atom.TheVariants.{Happens, Counts}
 use Rattle.meaning.specs.Lists.{All}
+use Rattle.meaning.specs.NormTypes.{norm_type_number}
 use Rattle.meaning.specs.Terms.{EventKind, Expr, leaf, and, or, except, always, Schema, Terms, leaves}
 use Rattle.format.specs.Bytes.{bytes_of, number_at, byte_at}
 use Rattle.format.specs.Grammar.{SchemaItems, size, kinds_limit, schemas_limit, expr_limit, WholeLeaf, item_03, item_08, WholeExpr, WholeSchema, terms_bytes}
@@ -29,13 +30,6 @@ unfoldable pub kind_bodies : ℕ → List EventKind → List (List ℕ)
 kind_bodies i [] = []
 kind_bodies i (k ∷ kinds) = kind_body i k ∷ kind_bodies (suc i) kinds
 
--- the byte of a norm type
-unfoldable pub type_number : NormType → ℕ
-type_number Commitment = 1
-type_number Authorization = 2
-type_number Prohibition = 3
-type_number Power = 4
-
 -- an expression's items
 unfoldable pub expr_items : Expr Atom → Expr (List ℕ)
 expr_items (leaf x) = leaf (leaf_bytes x)
@@ -47,7 +41,7 @@ expr_items always = always
 -- a schema's items
 unfoldable pub schema_items : Schema → SchemaItems
 schema_items x = record {
-  head = type_number x.type ∷ x.subject ∷ x.privileged ∷ x.liable ∷ [];
+  head = norm_type_number x.type ∷ x.subject ∷ x.privileged ∷ x.liable ∷ [];
   create = expr_items x.create;
   detach = expr_items x.detach;
   consequent = expr_items x.consequent;
@@ -89,8 +83,8 @@ kind-back i k h = λ n. record { mask = mask n; key = k.key }
     mask = unfold number_at in (rw (take_at (bytes_of 2 k.mask) (k.key ∷ []) 2 (bytes-length 2 k.mask)) (bytes-number 2 k.mask h))
 
 -- a norm type is read back from its byte
-pub type-back : (t : NormType) → norm_type_of (type_number t) ≡ t
-unfolding norm_type_of type_number
+pub type-back : (t : NormType) → norm_type_of (norm_type_number t) ≡ t
+unfolding norm_type_of
 type-back Commitment = refl
 type-back Authorization = refl
 type-back Prohibition = refl

@@ -1,5 +1,5 @@
 -- The readers of the model at the places and numbers that the code has.
---     expr-…, left-falls                    an expression: one lemma for each answer of the code, and the items that fall
+--     expr-…                                an expression: one lemma for each answer of the code
 --     item-ends, schema-found               where an item ends, and a schema with the places of its clauses
 --     starts-step                           the starts of one schema more
 -- Assumes nothing.
@@ -49,13 +49,13 @@ joined n items s at middle left low high a r b = go r b
     go (Some end) b = (j.join a.0 b.0, rw (join-reads n items s at low high, a.1, count, b.1), omega (arith, j.is.is.items a.0 b.0), omega arith, b.4)
     go None b = rw (join-reads n items s at low high, a.1, count, b)
 
--- an item that is read ends behind its body, which is what is read
+-- an item that is read ends after its body, which is what is read
 pub item-ends : (kind n : ℕ) (s : List ℕ) (at end : ℕ) {x : List ℕ} → item kind n (drop at s) ≡ some (x, drop end s) → end ≤ length s
     → (end ≡ at + 1 + n) × (x ≡ take n (drop (at + 1) s))
 item-ends kind n s at end {x} e h =
     let front = item-sound kind n (drop at s) e in
-    let behind : drop (at + 1) s ≡ x ++ drop end s = sym (drop-drop 1 at s) ∙ ap (drop 1) front.0 in
-    (omega (arith, simp (length-drop, length-append) at (ap length front.0), front.1), rw behind (sym (take_at x (drop end s) n front.1)))
+    let after : drop (at + 1) s ≡ x ++ drop end s = sym (drop-drop 1 at s) ∙ ap (drop 1) front.0 in
+    (omega (arith, simp (length-drop, length-append) at (ap length front.0), front.1), rw after (sym (take_at x (drop end s) n front.1)))
 
 -- the items that end an expression, and those that join two
 abbrev pub Ends : Item → Type 0
@@ -69,6 +69,12 @@ pub connects-code : {k : Item} {b : ℕ} → Connects k → code_of k ≡ b → 
 connects-code {b = b} (inl e) h = let f : 4 ≡ b = rw e at h in (omega arith, omega arith)
 connects-code {b = b} (inr (inl e)) h = let f : 5 ≡ b = rw e at h in (omega arith, omega arith)
 connects-code {b = b} (inr (inr e)) h = let f : 6 ≡ b = rw e at h in (omega arith, omega arith)
+
+-- their body is empty
+pub connects-body : {k : Item} → Connects k → body_of k ≡ 0
+connects-body (inl e) = ap body_of e
+connects-body (inr (inl e)) = ap body_of e
+connects-body (inr (inr e)) = ap body_of e
 
 -- and of those that end one
 pub ends-code : {k : Item} {b : ℕ} → Ends k → code_of k ≡ b → 1 ≤ b
@@ -147,20 +153,20 @@ module _ (items : ℕ) (s : List ℕ) (at : ℕ) where
     high : byte_at s at ≤ 6
     high = (connects-code is b).1
 
+    -- its first operand stands right after its byte
+    first-at : at + 1 + body_of k ≡ at + 1
+    first-at = omega (arith, connects-body is)
+
     -- a connective without its first operand
-    pub expr-no-first : Reads (items - 1) s (at + 1) None → Reads items s at None
+    pub expr-no-first : Reads (items - 1) s (at + 1 + body_of k) None → Reads items s at None
     unfolding read_both bind
-    expr-no-first f = one-taken None p (λ n h. rw (join-reads n (items - 1) s at low high, f n (omega arith)))
+    expr-no-first f = one-taken None p (λ n h. rw (join-reads n (items - 1) s at low high, rw first-at at f n (omega arith)))
 
     -- a connective: what its second operand gives
-    pub expr-both : (r : Option Spot) {middle : Spot} → Reads (items - 1) s (at + 1) (Some middle) → Reads middle.items s middle.at r → Reads items s at r
+    pub expr-both : (r : Option Spot) {middle : Spot} → Reads (items - 1) s (at + 1 + body_of k) (Some middle) → Reads middle.items s middle.at r → Reads items s at r
     expr-both r {middle} f g = one-taken r p (λ n h.
-        let a = f n (omega arith) in
+        let a = rw first-at at f n (omega arith) in
         joined n (items - 1) s at middle.at middle.items low high a r (g n (omega arith)))
-
-  -- no more items are left than there were
-  pub left-falls : {end : Spot} → Reads items s at (Some end) → end.items ≤ items
-  left-falls f = let a = f items (omega arith) in omega arith
 
 -- a schema, with the places of its clauses
 pub schema-found : (s : List ℕ) (at create detach consequent end : ℕ) → Found (item 2 4) s at (Some create) → Found read_clause s create (Some detach)

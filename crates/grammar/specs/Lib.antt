@@ -2,3 +2,4 @@
 pub mod Items
 pub mod Found
 pub mod Places
+pub mod Props

@@ -37,18 +37,14 @@ Starts s schemas starts =
     (n : ℕ) → n < length schemas
     → (end : ℕ) × ClausesAt s (get_or schemas n no_items) (get_or starts (3 * n) 0) (get_or starts (3 * n + 1) 0) (get_or starts (3 * n + 2) 0) end
 
--- what is known of the places of terms: how many kinds, and where the clause of each rank starts
-abbrev pub Placed : List ℕ → ℕ → List ℕ → Type 0
-Placed s kinds starts =
-    (kinds ≡ length (file_of s).kinds) × (length starts ≡ 3 * length (file_of s).schemas) × Starts s (file_of s).schemas starts
+-- what is known of the places of terms: how many kinds and schemas, and where the clause of each rank starts
+abbrev pub Placed : List ℕ → ℕ → ℕ → List ℕ → Type 0
+Placed s kinds schemas starts =
+    (kinds ≡ length (file_of s).kinds) × (schemas ≡ length (file_of s).schemas) × Starts s (file_of s).schemas starts
 
 -- what a layout tells of the file that is read
 pub record LaidOut (s : List ℕ) (p : Layout) : Type 0 where
-  -- the count of kinds
-  pub kinds_read : p.kinds ≡ length (file_of s).kinds
-  -- the count of schemas
-  pub schemas_read : p.schemas ≡ length (file_of s).schemas
+  -- the counts of kinds and schemas, and where the clauses start
+  pub placed : Placed s p.kinds p.schemas p.starts
   -- where the bytes left unread start
   pub rest_read : (drop p.rest s ≡ (file_of s).rest) × (p.rest ≤ length s)
-  -- where the clauses start
-  pub starts_read : Starts s (file_of s).schemas p.starts

@@ -1,12 +1,16 @@
 // The reading of terms by kind bytes and lengths alone: what stands where.
 #![tactic(auto)]
 
-ghost use Rattle.std.specs.Prelude.{◌≡◌, ℕ, ◌+◌, ◌*◌, ◌<◌, ◌≤◌, length, drop};
+mod outline;
+
+ghost use Rattle.std.specs.Prelude.{◌≡◌, ℕ, ◌+◌, ◌*◌, ◌^◌, ◌<◌, ◌≤◌, length, drop};
 ghost use Rattle.format.specs.Bytes.{byte_at, number_at, many, item};
 ghost use Rattle.format.specs.Grammar.{kinds_limit, read_clause, file_of};
 ghost use Rattle.grammar.specs.Items.{code_of, body_of, Names, ItemAt};
-ghost use Rattle.grammar.specs.Found.{Found, FoundExpr};
+ghost use Rattle.grammar.specs.Found.{after_item, if_passed, Found, FoundExpr};
 ghost use Rattle.grammar.specs.Places.{FoundSchema, LaidOut};
+
+pub use outline::Outline;
 
 // The most items of an expression, event kinds and schemas.
 pub const EXPRESSION_LIMIT: usize = 31;
@@ -15,8 +19,11 @@ pub const KINDS_LIMIT: usize = 32;
 
 pub const SCHEMAS_LIMIT: usize = 16;
 
+// How many clauses that makes: three for each schema.
+pub const RANKS: usize = 48;
+
 // The items of terms, each with its kind byte.
-#[derive(Clone, Copy, PartialEq, Eq)]
+#[derive(Clone, Copy, Debug, PartialEq, Eq)]
 pub enum Item {
     Kind = 1,
     Schema = 2,
@@ -29,7 +36,7 @@ pub enum Item {
 }
 
 // A byte that is no item's kind byte.
-#[derive(Clone, Copy, PartialEq, Eq)]
+#[derive(Clone, Copy, Debug, PartialEq, Eq)]
 pub struct UnknownItem(pub u8);
 
 impl TryFrom<u8> for Item {
@@ -66,15 +73,29 @@ impl Item {
     }
 }
 
-// A place of an expression, and how many items the expression may have; as an answer, the place behind it, and how many items are left.
-#[derive(Clone, Copy)]
+// A place of an expression, and how many items the expression may have; as an answer, the place after it, and how many items are left.
+#[derive(Clone, Copy, Debug, PartialEq, Eq)]
 pub struct Spot {
     pub at: usize,
     pub items: usize,
 }
 
+impl Spot {
+    // The spot after an item, which is one of those that the expression may have.
+    pub fn after(self, item: Item) -> Spot
+        requires kind_byte { self.at < 2 ^ 63 }
+        requires items { 0 < self.items }
+        ensures { result ≡ after_item self item }
+    {
+        Spot {
+            at: self.at + 1 + item.body(),
+            items: self.items - 1,
+        }
+    }
+}
+
 // Where the clauses of a schema start, and where the last one ends.
-#[derive(Clone, Copy)]
+#[derive(Clone, Copy, Debug, PartialEq, Eq)]
 struct Clauses {
     create: usize,
     detach: usize,
@@ -83,12 +104,12 @@ struct Clauses {
 }
 
 // What is read of terms: how many kinds and schemas, where the bytes left unread start, and where the clause of each rank starts.
-#[derive(Clone, Copy)]
+#[derive(Clone, Copy, Debug, PartialEq, Eq)]
 pub struct Layout {
     pub kinds: usize,
     pub schemas: usize,
     pub rest: usize,
-    pub starts: [usize; 48],
+    pub starts: [usize; RANKS],
 }
 
 // The byte at a place; past the end it is 0.
@@ -100,6 +121,7 @@ pub fn byte_at(s: &[u8], at: usize) -> u8
 }
 
 // The number in two bytes.
+#[tactic(auto, unfolding(format::specs::Bytes::byte_at), using(format::proofs::PlaceLaws::number_two))]
 pub fn u16_at(s: &[u8], at: usize) -> u16
     requires { at + 2 ≤ length s.now }
     ensures { result ≡ number_at 2 s.now at }
@@ -108,6 +130,7 @@ pub fn u16_at(s: &[u8], at: usize) -> u16
 }
 
 // The number in four bytes.
+#[tactic(auto, unfolding(format::specs::Bytes::byte_at), using(format::proofs::PlaceLaws::number_four))]
 pub fn u32_at(s: &[u8], at: usize) -> u32
     requires { at + 4 ≤ length s.now }
     ensures { result ≡ number_at 4 s.now at }
@@ -144,26 +167,48 @@ fn read_item(s: &[u8], at: usize, kind: Item) -> Option<usize>
     item_end(s, at, kind)
 }
 
-// An expression: a leaf, a count, always, or a connective and its two operands.
+// Moves a spot past the expression that stands there: a leaf, a count, always, or a connective and its two operands. Whether one stands there.
+fn pass_expression(s: &[u8], spot: &mut Spot) -> bool
+    ensures { (n : ℕ) → spot.old.items ≤ n → FoundExpr n spot.old.items s.now spot.old.at (if_passed result spot.new) }
+{
+    let start = *spot;
+    if start.items == 0 {
+        return false;
+    }
+    let Some(item) = item_at(s, start.at) else {
+        return false;
+    };
+    match item {
+        Item::Leaf | Item::Always | Item::Count => {
+            let Some(at) = item_end(s, start.at, item) else {
+                return false;
+            };
+            *spot = Spot {
+                at,
+                items: start.items - 1,
+            };
+            true
+        }
+        Item::And | Item::Or | Item::Except => {
+            *spot = start.after(item);
+            if !pass_expression(s, spot) {
+                return false;
+            }
+            pass_expression(s, spot)
+        }
+        Item::Kind | Item::Schema => false,
+    }
+}
+
+// The spot after the expression that stands at one.
 pub fn read_expression(s: &[u8], spot: Spot) -> Option<Spot>
     ensures { (n : ℕ) → spot.items ≤ n → FoundExpr n spot.items s.now spot.at result }
 {
-    let items = spot.items.checked_sub(1)?;
-    let item = item_at(s, spot.at)?;
-    match item {
-        Item::Leaf | Item::Always | Item::Count => {
-            let at = item_end(s, spot.at, item)?;
-            Some(Spot { at, items })
-        }
-        Item::And | Item::Or | Item::Except => {
-            let first = Spot {
-                at: spot.at + 1,
-                items,
-            };
-            let second = read_expression(s, first)?;
-            read_expression(s, second)
-        }
-        Item::Kind | Item::Schema => None,
+    let mut end = spot;
+    if pass_expression(s, &mut end) {
+        Some(end)
+    } else {
+        None
     }
 }
 
@@ -218,7 +263,7 @@ pub fn read_layout(s: &[u8]) -> Layout
         kinds,
         schemas: 0,
         rest: 5 * kinds,
-        starts: [0; 48],
+        starts: [0; RANKS],
     };
     for n in 0..SCHEMAS_LIMIT {
         let Some(found) = read_schema(s, layout.rest) else {

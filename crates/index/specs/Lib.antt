@@ -3,3 +3,4 @@ pub mod Words
 pub mod Chains
 pub mod Asked
 pub mod Walk
+pub mod Props

@@ -3,7 +3,7 @@
 
 ghost use Rattle.std.specs.Prelude.{◌≤◌, IfOk};
 
-use console::{Failure, at_end, read_bytes, read_number, split_rows};
+use console::{Failure, at_end, end, read_bytes, read_number, split_rows};
 use event_log::LOG_LIMIT;
 use report::report;
 use std::alloc::Global;
@@ -62,10 +62,13 @@ fn list(rt: &impl Print, alloc: Global, request: &Request) -> io::Result<()> {
     }
 }
 
+// Reads the input and lists its report.
+fn run(rt: &(impl Print + Input), alloc: Global) -> Result<(), Failure> {
+    let request = read_request(alloc, &mut rt.reader())?;
+    list(rt, alloc, &request)?;
+    Ok(())
+}
+
 fn main(rt: HostRuntime) -> io::Result<()> {
-    match read_request(rt.alloc(), &mut rt.reader()) {
-        Ok(request) => list(&rt, rt.alloc(), &request),
-        Err(Failure::BadInput) => println!(rt; "bad input"),
-        Err(Failure::Io(error)) => Err(error),
-    }
+    end(&rt, run(&rt, rt.alloc()), "bad input")
 }

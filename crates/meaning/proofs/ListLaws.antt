@@ -6,12 +6,12 @@ use mathlib.Core.List.{List, [], ◌∷◌, ◌++◌, map, flat_map, flatten, ap
 use lib.ListN.{take, drop, get_or}
 use Rattle.meaning.specs.Lists.{any_of, All, is_empty}
 
--- Of two lists one behind the other: what holds in both.
+-- Of two lists one after the other: what holds in both.
 pub all_append : {A : Type 0} (P : A → Type 0) (a b : List A) → All P a → All P b → All P (a ++ b)
 all_append P [] b p q = q
 all_append P (x ∷ a) b p q = (p.0, all_append P a b p.1 q)
 
--- What holds of two lists one behind the other holds in both.
+-- What holds of two lists one after the other holds in both.
 pub all_split : {A : Type 0} (P : A → Type 0) (a b : List A) → All P (a ++ b) → All P a × All P b
 all_split P [] b h = (tt, h)
 all_split P (x ∷ a) b h = let rest = all_split P a b h.1 in ((h.0, rest.0), rest.1)
@@ -71,7 +71,7 @@ unfolding flat_map flatten
 flatten-each [] = refl
 flatten-each (c ∷ l) = ap (λ t. c ++ t) (flatten-each l)
 
--- One more list behind the others.
+-- One more list after the others.
 pub flatten-snoc : {A : Type 0} (l : List (List A)) (c : List A) → flatten (l ++ (c ∷ [])) ≡ flatten l ++ c
 unfolding flatten
 flatten-snoc [] c = append-nil c
@@ -82,7 +82,7 @@ pub any_here : {A : Type 0} (p : A → Bool) (x : A) (l : List A) → p x ≡ tr
 unfolding any_of
 any_here p x l e = rw e
 
--- One that it fails is left to the elements behind.
+-- One that it fails is left to the elements after it.
 pub any-behind : {A : Type 0} (p : A → Bool) (x : A) (l : List A) → p x ≡ false → any_of p (x ∷ l) ≡ any_of p l
 unfolding any_of
 any-behind p x l e = rw e
@@ -92,7 +92,7 @@ pub any-one : {A : Type 0} (p : A → Bool) (x : A) → any_of p (x ∷ []) ≡ 
 unfolding any_of
 any-one p x = or-false (p x)
 
--- A test of two lists one behind the other.
+-- A test of two lists one after the other.
 pub any_append : {A : Type 0} (p : A → Bool) (a b : List A) → any_of p (a ++ b) ≡ (any_of p a || any_of p b)
 unfolding any_of
 any_append p [] b = refl
@@ -110,7 +110,7 @@ unfolding any_of
 any_none p [] h = refl
 any_none p (x ∷ l) h = rw (h x) (any_none p l h)
 
--- what each element gives, of lists one behind another
+-- what each element gives, of lists one after another
 pub flat_map-append : {A B : Type 0} (f : A → List B) (a b : List A) → flat_map f (a ++ b) ≡ flat_map f a ++ flat_map f b
 unfolding flat_map
 flat_map-append f [] b = refl

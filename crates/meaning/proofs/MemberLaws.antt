@@ -92,7 +92,7 @@ stage-back Violated = refl
 pub stage-told : (s t : Stage) → stage_number s ≡ stage_number t → s ≡ t
 stage-told s t e = let same : Some s ≡ Some t = sym (stage-back s) ∙ ap stage_of e ∙ stage-back t in cc
 
--- Nothing stands twice: no element stands again behind itself.
+-- Nothing stands twice: no element stands again after itself.
 abbrev pub Distinct : {A : Type 0} → List A → Type 0
 Distinct [] = Unit {0}
 Distinct (x ∷ l) = (Memᴰ x l → ⊥) × Distinct l

@@ -21,7 +21,7 @@ module _ {A : Type 0} (timed : A → ℕ) where
       go true h = omega arith
       go false h = omega arith
 
-  -- Two lists one behind the other are struck one by one: a report is built by joining lists.
+  -- Two lists one after the other are struck one by one: a report is built by joining lists.
   pub strike-append : (m : ℕ) (a b : List A) → strike timed m (a ++ b) ≡ strike timed m a ++ strike timed m b
   unfolding strike
   strike-append m [] b = refl

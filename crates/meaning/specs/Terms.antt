@@ -24,6 +24,8 @@ pub data Expr (A : Type 0) : Type 0 where
   leaf : A → Expr A
   and or except : Expr A → Expr A → Expr A
   always : Expr A
+  -- over a set it is a set
+  deriving IsSet as Expr-set
 
 -- a norm schema (item 02 and the three expressions that follow it)
 pub record Schema : Type 0 where

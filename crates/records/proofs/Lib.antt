@@ -4,3 +4,4 @@ pub mod Apart
 pub mod Keys
 pub mod Places
 pub mod Walks
+pub mod Items

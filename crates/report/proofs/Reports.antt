@@ -22,10 +22,10 @@ use Rattle.report.proofs.RowSteps.{all-rows}
 
 module _ (terms log : List ℕ) (used m : ℕ) (page : List ℕ) where
   -- the refusals of call 2 come first
-  pub report-refused : {found : Result (Unit {0}) Refusal} {x : Refusal} → found ≡ Err x → checked_answer found ≡ check_log value_width terms log used
+  pub report-refused : {A : Type 0} {found : Result A Refusal} {x : Refusal} → found ≡ Err x → checked_answer found ≡ check_log value_width terms log used
       → outcome (counted_answer (Err x)) page ≡ report value_width terms log used m page
   unfolding counted_answer report on_page
-  report-refused {found} {x} is e = refused-outcome x (log-refused terms log used is e (page_checks value_width (rows_of value_width terms log used m) page)) page _
+  report-refused {x = x} is e = refused-outcome x (log-refused terms log used is e (page_checks value_width (rows_of value_width terms log used m) page)) page _
 
   module _ (kept : (more : List Check) → refusal (log_checks value_width terms log used ++ more) ≡ refusal more)
       {short : Bool} (measured : short ≡ ltb (length page) (row_length value_width * length (schemas_from terms (take used log) m 0))) where

@@ -1,98 +1,60 @@
 -- The subject that a standing asks for, and what call 5 answers.
---     sought-other, sought-key, sought-stamp
---                                       whether a record is that subject
---     found-first, found-at             the search, by the places of the records
+--     found-at             the search, by the places of the records
 --     standing-refused, standing-past, standing-nobody, standing-shown
 --                                       the answer: refused as call 2, by 15, by 16, or the entries
 -- Assumes nothing.
 use Prim.Native.Nat.{ℕ, ◌≤◌, ◌<◌}
-use mathlib.Core.Path.{◌≡◌, refl, sym, ◌∙◌}
+use mathlib.Core.Path.{◌≡◌, refl, sym}
 use mathlib.Core.Bool.{Bool, true, false, cond}
 use mathlib.Core.List.{List, [], ◌∷◌, ◌++◌, map}
-use mathlib.Core.Option.{none, some}
-use lib.Dec.{ltb}
+use mathlib.Core.Option.{Option as Maybe, some}
 use lib.ListN.{length, take}
-use borrow.Author.Tests.{le-leb, lt-leb, eq-eqb, ne_eqb}
+use borrow.Author.Tests.{le-leb, lt-leb}
 use Rattle.calls.specs.declared.Refusal.{Refusal}
 use Rattle.calls.specs.declared.Refusal.TheVariants.{NoSchema, NoSubject}
-use Rattle.std.specs.Prelude.{Result, Ok, Err, Some, None, Option, MatchOption}
+use Rattle.std.specs.Prelude.{Result, Ok, Err, Some, None, Option}
 use Rattle.meaning.specs.declared.Entries.{Entries}
-use Rattle.meaning.specs.Terms.{Terms, schema_at}
-use Rattle.meaning.specs.Log.{Record, key_of}
+use Rattle.meaning.specs.Log.{Record}
 use Rattle.meaning.specs.Rows.{find as first, is_sought, subject_of}
 use Rattle.std.specs.List.{find}
 use Rattle.meaning.specs.Lists.{All}
-use Rattle.format.specs.Bytes.{byte_at}
 use Rattle.format.specs.Fields.{terms_of}
-use Rattle.format.specs.Records.{value_width, records_in, log_of}
+use Rattle.format.specs.Records.{value_width, log_of}
 use Rattle.calls.specs.Answers.{refusal_number, checked_answer, standing_answer}
 use Rattle.calls.specs.Calls.{Check, refusal, log_checks, check_log, no_schema, missing, standing_subject, key_checks, entries_for, standing_as, standing}
 use Rattle.calls.proofs.AnswerLaws.{refusal-positive}
 use Rattle.calls.proofs.StandingLaws.{refused-entries}
-use Rattle.records.specs.Holds.{Stands, record_at, places_in}
+use Rattle.records.specs.Holds.{Stands, places_in}
 use Rattle.records.proofs.Places.{records-same, places-stand}
 use Rattle.event_log.proofs.Checks.{log-refused}
 use Rattle.evaluate.specs.Seen.{log_in, record_in}
-use Rattle.report.specs.Shown.{entries_in, FoundAt}
-use Rattle.report.proofs.RowSteps.{is-subject}
-
-module _ (terms log : List ℕ) (schema key m at : ℕ) where
-  -- a record of another kind is not the one
-  pub sought-other : (byte_at log at ≡ (schema_at (terms_of terms) schema).subject → ⊥) → is_sought (terms_of terms) schema key m (record_in terms log at) ≡ false
-  unfolding is_sought
-  sought-other ne = rw (is-subject terms log schema at ∙ ne_eqb (byte_at log at) _ ne)
-
-  module _ (is : byte_at log at ≡ (schema_at (terms_of terms) schema).subject) {k : ℕ} (e : k ≡ key_of (terms_of terms) (record_at (terms_of terms) log at)) where
-    -- nor is one with another key
-    pub sought-key : (k ≡ key → ⊥) → is_sought (terms_of terms) schema key m (record_in terms log at) ≡ false
-    unfolding is_sought record_in
-    sought-key ne = rw (is-subject terms log schema at ∙ eq-eqb (byte_at log at) _ is, ← e, ne_eqb k key ne)
-
-    -- one with the key is told by its stamp
-    pub sought-stamp : k ≡ key → {stamp : ℕ} → stamp ≡ (record_at (terms_of terms) log at).stamp → is_sought (terms_of terms) schema key m (record_in terms log at) ≡ ltb stamp m
-    unfolding is_sought record_in
-    sought-stamp same st = rw (is-subject terms log schema at ∙ eq-eqb (byte_at log at) _ is, ← e, eq-eqb k key same, st)
+use Rattle.report.specs.Shown.{entries_in, PlaceOf, FoundAt}
 
 -- the first place that passes a test has the first record that passes it
-pub found-first : (t : Terms) (log : List ℕ) (p : Record → Bool) (places : List ℕ) → All (Stands t log) places
-    → MatchOption (find (λ at. p (record_at t log at)) places) (first p (map (record_at t log) places) ≡ none)
-    (λ at. (first p (map (record_at t log) places) ≡ some (record_at t log at)) × Stands t log at)
+found-first : (terms log : List ℕ) (p : Record → Bool) (places : List ℕ) → All (Stands (terms_of terms) log) places
+    → PlaceOf terms log (first p (map (record_in terms log) places)) (find (λ at. p (record_in terms log at)) places)
 unfolding first
-found-first t log p [] all = refl
-found-first t log p (at ∷ places) all = go (p (record_at t log at)) (found-first t log p places all.1)
+found-first terms log p [] all = refl
+found-first terms log p (at ∷ places) all = go (p (record_in terms log at)) _ _ (found-first terms log p places all.1)
   where
-    go : (b : Bool)
-        → MatchOption (find (λ at. p (record_at t log at)) places) (first p (map (record_at t log) places) ≡ none)
-        (λ at. (first p (map (record_at t log) places) ≡ some (record_at t log at)) × Stands t log at)
-        → MatchOption (cond b (Some at) (find (λ at. p (record_at t log at)) places)) (cond b (some (record_at t log at)) (first p (map (record_at t log) places)) ≡ none)
-        (λ at'. (cond b (some (record_at t log at)) (first p (map (record_at t log) places)) ≡ some (record_at t log at')) × Stands t log at')
-    go true rest = (refl, all.0)
-    go false rest = rest
+    go : (b : Bool) (r : Maybe Record) (place : Option ℕ) → PlaceOf terms log r place → PlaceOf terms log (cond b (some (record_in terms log at)) r) (cond b (Some at) place)
+    go true r place rest = (refl, all.0)
+    go false r place rest = rest
 
 -- it is the subject that a standing asks for
 pub found-at : (terms log : List ℕ) (schema key m : ℕ) {place : Option ℕ} → place ≡ find (λ at. is_sought (terms_of terms) schema key m (record_in terms log at)) (places_in (terms_of terms) log)
     → FoundAt terms log schema key m place
 unfolding subject_of log_in record_in
-found-at terms log schema key m {place} e = go place (rw (← e, records-same t log) at (found-first t log p (places_in t log) (places-stand t log)))
-  where
-    t : Terms
-    t = terms_of terms
-
-    p : Record → Bool
-    p = is_sought t schema key m
-
-    go : (place : Option ℕ)
-        → MatchOption place (first p (records_in value_width t log) ≡ none) (λ at. (first p (records_in value_width t log) ≡ some (record_at t log at)) × Stands t log at)
-        → FoundAt terms log schema key m place
-    go (Some at) found = found
-    go None found = found
+found-at terms log schema key m e =
+    let t = terms_of terms in
+    rw (e, ← (records-same t log)) (found-first terms log (is_sought t schema key m) (places_in t log) (places-stand t log))
 
 module _ (terms log : List ℕ) (used schema key m : ℕ) where
   -- the refusals of call 2 come first
-  pub standing-refused : {found : Result (Unit {0}) Refusal} {x : Refusal} → found ≡ Err x → checked_answer found ≡ check_log value_width terms log used
+  pub standing-refused : {A : Type 0} {found : Result A Refusal} {x : Refusal} → found ≡ Err x → checked_answer found ≡ check_log value_width terms log used
       → standing_answer (Err x) ≡ standing value_width terms log used schema key m
   unfolding standing_answer standing
-  standing-refused {found} {x} is e = rw (log-refused terms log used is e (key_checks value_width terms log used schema key m)) (sym (refused-entries (refusal_number x) _ (refusal-positive x)))
+  standing-refused {x = x} is e = rw (log-refused terms log used is e (key_checks value_width terms log used schema key m)) (sym (refused-entries (refusal_number x) _ (refusal-positive x)))
 
   module _ (kept : (more : List Check) → refusal (log_checks value_width terms log used ++ more) ≡ refusal more) where
     -- past the last schema

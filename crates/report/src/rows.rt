@@ -1,34 +1,24 @@
 // The entries and the rows of subjects, schema by schema: counted, then written on a page.
-ghost use Rattle.std.specs.Prelude.{◌≡◌, ℕ, ◌+◌, ◌*◌, ◌<◌, ◌≤◌, ltb, length};
+ghost use Rattle.std.specs.Prelude.{◌≡◌, ℕ, ◌+◌, ◌*◌, ◌<◌, ◌≤◌, true, ltb, length};
 ghost use Rattle.meaning.specs.declared.Row.{Row};
 ghost use Rattle.meaning.specs.declared.Stage.{Stage};
-ghost use Rattle.meaning.specs.Terms.{schema_at};
-ghost use Rattle.meaning.specs.Rows.{row_of, row_at};
+ghost use Rattle.meaning.specs.Rows.{row_of, row_at, is_subject};
 ghost use Rattle.format.specs.Bytes.{bytes_of, written};
-ghost use Rattle.format.specs.Grammar.{schemas_limit, file_of};
-ghost use Rattle.format.specs.Fields.{terms_of};
+ghost use Rattle.format.specs.Grammar.{file_of};
 ghost use Rattle.format.specs.Records.{value_width, row_length, row_bytes};
-ghost use Rattle.table.specs.Table.{Read};
-ghost use Rattle.records.specs.Holds.{Stands};
-ghost use Rattle.index.specs.Chains.{index_limit, Ready};
-ghost use Rattle.evaluate.specs.Seen.{record_in};
-ghost use Rattle.report.specs.Shown.{entries_in, row_by, record_rows, rows_from, schemas_from, with_rows};
+ghost use Rattle.index.specs.Chains.{index_limit};
+ghost use Rattle.report.specs.Shown.{row_by, rows_from, schemas_from, most_rows, with_rows};
+ghost use Rattle.report.specs.Wanted.{terms_asked, record_asked, entries_asked, rows_asked};
 
 use crate::ROW_LENGTH;
+use crate::asked::Asked;
+use accepted::Accepted;
 use evaluate::{Clauses, clause_times};
-use index::{all_of, count_with};
+use index::all_of;
 use meaning::{Entries, Row, Stage, Time};
-use records::{Masked, Records, key_at, stamp_at, value_of};
-use table::{VALUE_WIDTH, head_at, mask_in, norm_type, schema_count, subject_of};
+use records::{Records, value_of};
+use table::VALUE_WIDTH;
 use times::{ClauseTimes, Needed, before, consequent_needs_all};
-
-// What is asked for: the subject at a place, under a schema, at a moment.
-#[derive(Clone, Copy, Debug, PartialEq, Eq)]
-pub(crate) struct Asked {
-    pub(crate) subject: usize,
-    pub(crate) schema: usize,
-    pub(crate) moment: u32,
-}
 
 // What all rows of a subject under a schema have in common.
 #[derive(Clone, Copy, Debug, PartialEq, Eq)]
@@ -39,26 +29,27 @@ struct Agreement {
     liable: u32,
 }
 
-// The five entries of a subject. Each clause is worked out once for all five.
-#[tactic(auto, unfolding(format::specs::Grammar::schemas_limit))]
-pub(crate) fn entries_of(terms: &[u8], log: &[u8], table: &[u16], asked: Asked) -> Entries
-    requires ready { Ready terms.now log.now table.now }
-    requires schema_in_bounds { asked.schema < length (file_of terms.now).schemas }
-    requires stands { Stands (terms_of terms.now) log.now asked.subject }
-    ensures { result ≡ entries_in terms.now log.now asked.subject asked.schema asked.moment }
+// Whether the record is a subject of the schema: of its subject kind.
+#[tactic(auto, unfolding(meaning::specs::Rows::is_subject), using(crate::proofs::RowSteps::kind_is))]
+pub(crate) fn is_subject(asked: &Asked<'_>) -> bool
+    ensures { result ≡ is_subject (terms_asked asked.now) asked.now.schema (record_asked asked.now) }
 {
-    let norm = norm_type(terms, table, asked.schema);
-    let stamp = stamp_at(log, asked.subject);
-    let needed = consequent_needs_all(norm);
-    let clauses = Clauses::of(asked.subject, asked.schema);
-    let c = clause_times(terms, log, table, clauses.create, Needed::Occurrence);
-    let r = clause_times(terms, log, table, clauses.detach, Needed::Both);
-    let u = clause_times(terms, log, table, clauses.consequent, needed);
+    asked.subject.record().kind() == asked.subject.call.places().subject_of(asked.schema)
+}
+
+// The five entries of a subject. Each clause is worked out once for all five.
+pub(crate) fn entries_of(asked: &Asked<'_>) -> Entries
+    ensures { result ≡ entries_asked asked.now }
+{
+    let subject = &asked.subject;
+    let norm = subject.call.places().norm_type(asked.schema);
+    let clauses = Clauses::of(subject, asked.schema);
     let times = ClauseTimes {
-        create: c,
-        detach: r,
-        consequent: u,
+        create: clause_times(&clauses.create, Needed::Occurrence),
+        detach: clause_times(&clauses.detach, Needed::Both),
+        consequent: clause_times(&clauses.consequent, consequent_needs_all(norm)),
     };
+    let stamp = subject.record().stamp();
     let entry = |stage: Stage| before(asked.moment, times.stage_from(stage, norm, stamp));
     Entries {
         created: entry(Stage::Created),
@@ -80,17 +71,14 @@ fn row_count(entry: Time) -> usize
     }
 }
 
-// How many rows the record at a place has under a schema.
-fn count_record(terms: &[u8], log: &[u8], table: &[u16], asked: Asked) -> usize
-    requires ready { Ready terms.now log.now table.now }
-    requires schema_in_bounds { asked.schema < length (file_of terms.now).schemas }
-    requires stands { Stands (terms_of terms.now) log.now asked.subject }
-    ensures { (result ≡ length (record_rows terms.now log.now asked.schema asked.moment asked.subject)) × (result ≤ 5) }
+// How many rows what is asked for has.
+fn count_record(asked: &Asked<'_>) -> usize
+    ensures { (result ≡ length (rows_asked asked.now)) × (result ≤ 5) }
 {
-    if log[asked.subject] != subject_of(terms, table, asked.schema) {
+    if !is_subject(asked) {
         return 0;
     }
-    let entries = entries_of(terms, log, table, asked);
+    let entries = entries_of(asked);
     Stage::ALL
         .iter()
         .map(|stage| row_count(entries.of(*stage)))
@@ -98,86 +86,68 @@ fn count_record(terms: &[u8], log: &[u8], table: &[u16], asked: Asked) -> usize
 }
 
 // How many rows a schema has.
-fn count_schema(terms: &[u8], log: &[u8], table: &[u16], schema: usize, moment: u32) -> usize
-    requires ready { Ready terms.now log.now table.now }
-    requires schema_in_bounds { schema < length (file_of terms.now).schemas }
-    ensures { (result ≡ length (rows_from terms.now log.now schema moment 0)) × (result ≤ index_limit) }
+fn count_schema<'a>(call: &'a Accepted<'a>, schema: usize, moment: u32) -> usize
+    requires { schema < length (file_of call.now.terms.now).schemas }
+    ensures { (result ≡ length (rows_from call.now.terms.now call.now.bytes.now schema moment 0)) × (result ≤ 5 * index_limit) }
 {
-    Records::new(terms, log, table)
-        .map(|subject| {
-            let asked = Asked {
-                subject,
-                schema,
-                moment,
-            };
-            count_record(terms, log, table, asked)
-        })
+    Records::new(&call.log())
+        .map(|at| count_record(&Asked::of(call, at, schema, moment)))
         .sum()
 }
 
 // How many rows a report has.
-fn count_rows(terms: &[u8], log: &[u8], table: &[u16], moment: u32) -> usize
-    requires { Ready terms.now log.now table.now }
-    ensures { (result ≡ length (schemas_from terms.now log.now moment 0)) × (result ≤ schemas_limit * index_limit) }
+fn count_rows<'a>(call: &'a Accepted<'a>, moment: u32) -> usize
+    ensures { result ≡ length (schemas_from call.now.terms.now call.now.bytes.now moment 0) }
 {
-    let mut count: usize = 0;
-    for schema in 0..schema_count(table) {
-        count += count_schema(terms, log, table, schema, moment);
-    }
-    count
+    (0..call.layout.schemas)
+        .map(|schema| count_schema(call, schema, moment))
+        .sum()
 }
 
 // An upper bound on the rows of a schema: five for each record of its subject kind.
-fn schema_rows_at_most(terms: &[u8], log: &[u8], table: &[u16], schema: usize) -> usize
-    requires { Ready terms.now log.now table.now }
-    ensures { ((m : ℕ) → length (rows_from terms.now log.now schema m 0) ≤ result) × (result ≤ 5 * index_limit) }
+#[tactic(auto, unfolding(crate::specs::Shown::most_rows))]
+fn schema_rows_at_most(call: &Accepted<'_>, schema: usize) -> usize
+    ensures { (result ≡ most_rows call.now.terms.now call.now.bytes.now schema) × (result ≤ 5 * index_limit) }
 {
-    let subjects = all_of(subject_of(terms, table, schema));
-    5 * count_with(terms, log, table, subjects)
+    let subjects = all_of(call.places().subject_of(schema));
+    5 * call.index().count_with(subjects)
 }
 
 // An upper bound on the rows of a report.
-fn rows_at_most(terms: &[u8], log: &[u8], table: &[u16]) -> usize
-    requires { Ready terms.now log.now table.now }
-    ensures { ((m : ℕ) → length (schemas_from terms.now log.now m 0) ≤ result) × (result ≤ schemas_limit * (5 * index_limit)) }
+fn rows_at_most(call: &Accepted<'_>) -> usize
+    ensures { (m : ℕ) → length (schemas_from call.now.terms.now call.now.bytes.now m 0) ≤ result }
 {
-    let mut most: usize = 0;
-    for schema in 0..schema_count(table) {
-        most += schema_rows_at_most(terms, log, table, schema);
-    }
-    most
+    (0..call.layout.schemas)
+        .map(|schema| schema_rows_at_most(call, schema))
+        .sum()
 }
 
 // Whether a page is too short for the rows of a report. They are counted only where the upper bound does not fit.
-#[tactic(auto, unfolding(format::specs::Grammar::schemas_limit, format::specs::Records::row_length))]
-pub(crate) fn too_short(terms: &[u8], log: &[u8], table: &[u16], moment: u32, page: &[u8]) -> bool
-    requires { Ready terms.now log.now table.now }
-    ensures { result ≡ ltb (length page.now) (row_length value_width * length (schemas_from terms.now log.now moment 0)) }
+#[tactic(auto, unfolding(format::specs::Records::row_length))]
+pub(crate) fn too_short<'a>(call: &'a Accepted<'a>, moment: u32, page: &[u8]) -> bool
+    ensures { result ≡ ltb (length page.now) (row_length value_width * length (schemas_from call.now.terms.now call.now.bytes.now moment 0)) }
 {
-    if ROW_LENGTH * rows_at_most(terms, log, table) <= page.len() {
+    let room = page.len() / ROW_LENGTH;
+    if rows_at_most(call) <= room {
         return false;
     }
-    page.len() < ROW_LENGTH * count_rows(terms, log, table, moment)
+    room < count_rows(call, moment)
 }
 
-// Whose rows they are: the schema, the key and the parties of the subject at a place.
-fn agreement_of(terms: &[u8], log: &[u8], table: &[u16], subject: usize, schema: usize) -> Agreement
-    requires read { Read terms.now table.now }
-    requires schema_in_bounds { schema < length (file_of terms.now).schemas }
-    requires stands { Stands (terms_of terms.now) log.now subject }
-    requires of_subject_kind { (record_in terms.now log.now subject).kind ≡ (schema_at (terms_of terms.now) schema).subject }
-    ensures { (s : Stage) (t : ℕ) → row_by result s t ≡ row_of (terms_of terms.now) schema (record_in terms.now log.now subject) s t }
+// Whose rows they are: the schema, the key and the parties of the subject.
+fn agreement_of(asked: &Asked<'_>) -> Agreement
+    requires { is_subject (terms_asked asked.now) asked.now.schema (record_asked asked.now) ≡ true }
+    ensures { (s : Stage) (t : ℕ) → row_by result s t ≡ row_of (terms_asked asked.now) asked.now.schema (record_asked asked.now) s t }
 {
-    let carrier = Masked {
-        at: subject,
-        mask: mask_in(table, log[subject]),
-    };
-    let head = head_at(terms, table, schema);
+    let call = asked.subject.call;
+    let record = asked.subject.record();
+    let carrier = record.masked();
+    let head = call.places().head_at(asked.schema);
     Agreement {
-        schema: schema as u8,
-        key: key_at(terms, log, table, subject),
-        privileged: value_of(log, carrier, terms[head + 2]),
-        liable: value_of(log, carrier, terms[head + 3]),
+        schema: asked.schema as u8,
+        key: record.key(),
+        privileged: value_of(call.bytes, carrier, call.terms[head + 2]),
+        liable: value_of(call.bytes, carrier, call.terms[head + 3]),
     }
 }
 
@@ -190,7 +160,7 @@ fn put_u32(page: &mut [u8], at: usize, n: u32)
 }
 
 // Puts a row on the page.
-#[tactic(auto, unfolding(format::specs::Records::row_length))]
+#[tactic(auto, unfolding(format::specs::Records::row_length), using(crate::proofs::Pages::row_laws))]
 fn put_row(page: &mut [u8], at: usize, row: Row)
     requires { at + row_length value_width ≤ length page.old }
     ensures { page.new ≡ written page.old at (row_bytes value_width row) }
@@ -204,7 +174,7 @@ fn put_row(page: &mut [u8], at: usize, row: Row)
 }
 
 // Writes the row of an entry, if it has one. The place after it.
-#[tactic(auto, unfolding(format::specs::Records::row_length))]
+#[tactic(auto, unfolding(format::specs::Records::row_length, crate::specs::Shown::row_by), using(crate::proofs::Pages::no_rows, crate::proofs::Pages::row_in, crate::proofs::Pages::row_out))]
 fn write_entry(page: &mut [u8], to: usize, agreement: Agreement, stage: Stage, entry: Time) -> usize
     requires { to + row_length value_width * length (row_at (row_by agreement stage) entry) ≤ length page.old }
     ensures { (result ≡ to + row_length value_width * length (row_at (row_by agreement stage) entry)) × (page.new ≡ with_rows page.old to (row_at (row_by agreement stage) entry)) }
@@ -224,28 +194,16 @@ fn write_entry(page: &mut [u8], to: usize, agreement: Agreement, stage: Stage, e
     to + ROW_LENGTH
 }
 
-// Writes the rows of the record at a place under a schema. The place after them.
-fn write_record(
-    terms: &[u8],
-    log: &[u8],
-    table: &[u16],
-    asked: Asked,
-    page: &mut [u8],
-    from: usize,
-) -> usize
-    requires ready { Ready terms.now log.now table.now }
-    requires schema_in_bounds { asked.schema < length (file_of terms.now).schemas }
-    requires stands { Stands (terms_of terms.now) log.now asked.subject }
-    requires rows_fit { from + row_length value_width * length (record_rows terms.now log.now asked.schema asked.moment asked.subject) ≤ length page.old }
-    ensures { (result ≡ from + row_length value_width * length (record_rows terms.now log.now asked.schema asked.moment asked.subject)) × (page.new ≡ with_rows page.old from (record_rows terms.now log.now asked.schema asked.moment asked.subject)) }
+// Writes the rows of what is asked for. The place after them.
+fn write_record(asked: &Asked<'_>, page: &mut [u8], from: usize) -> usize
+    requires { from + row_length value_width * length (rows_asked asked.now) ≤ length page.old }
+    ensures { (result ≡ from + row_length value_width * length (rows_asked asked.now)) × (page.new ≡ with_rows page.old from (rows_asked asked.now)) }
 {
-    let subject = asked.subject;
-    let schema = asked.schema;
-    if log[subject] != subject_of(terms, table, schema) {
+    if !is_subject(asked) {
         return from;
     }
-    let entries = entries_of(terms, log, table, asked);
-    let whose = agreement_of(terms, log, table, subject, schema);
+    let entries = entries_of(asked);
+    let whose = agreement_of(asked);
     let mut to = from;
     for stage in &Stage::ALL {
         to = write_entry(page, to, whose, *stage, entries.of(*stage));
@@ -254,47 +212,32 @@ fn write_record(
 }
 
 // Writes the rows of a schema. The place after them.
-fn write_schema(
-    terms: &[u8],
-    log: &[u8],
-    table: &[u16],
+fn write_schema<'a>(
+    call: &'a Accepted<'a>,
     schema: usize,
     moment: u32,
     page: &mut [u8],
     from: usize,
 ) -> usize
-    requires ready { Ready terms.now log.now table.now }
-    requires schema_in_bounds { schema < length (file_of terms.now).schemas }
-    requires rows_fit { from + row_length value_width * length (rows_from terms.now log.now schema moment 0) ≤ length page.old }
-    ensures { (result ≡ from + row_length value_width * length (rows_from terms.now log.now schema moment 0)) × (page.new ≡ with_rows page.old from (rows_from terms.now log.now schema moment 0)) }
+    requires schema_in_bounds { schema < length (file_of call.now.terms.now).schemas }
+    requires rows_fit { from + row_length value_width * length (rows_from call.now.terms.now call.now.bytes.now schema moment 0) ≤ length page.old }
+    ensures { (result ≡ from + row_length value_width * length (rows_from call.now.terms.now call.now.bytes.now schema moment 0)) × (page.new ≡ with_rows page.old from (rows_from call.now.terms.now call.now.bytes.now schema moment 0)) }
 {
     let mut to = from;
-    for subject in Records::new(terms, log, table) {
-        let asked = Asked {
-            subject,
-            schema,
-            moment,
-        };
-        to = write_record(terms, log, table, asked, page, to);
+    for at in Records::new(&call.log()) {
+        to = write_record(&Asked::of(call, at, schema, moment), page, to);
     }
     to
 }
 
 // Writes all rows, from the page's first byte. How many there are.
-pub(crate) fn write_rows(
-    terms: &[u8],
-    log: &[u8],
-    table: &[u16],
-    moment: u32,
-    page: &mut [u8],
-) -> usize
-    requires ready { Ready terms.now log.now table.now }
-    requires rows_fit { row_length value_width * length (schemas_from terms.now log.now moment 0) ≤ length page.old }
-    ensures { (result ≡ length (schemas_from terms.now log.now moment 0)) × (page.new ≡ with_rows page.old 0 (schemas_from terms.now log.now moment 0)) }
+pub(crate) fn write_rows<'a>(call: &'a Accepted<'a>, moment: u32, page: &mut [u8]) -> usize
+    requires { row_length value_width * length (schemas_from call.now.terms.now call.now.bytes.now moment 0) ≤ length page.old }
+    ensures { (result ≡ length (schemas_from call.now.terms.now call.now.bytes.now moment 0)) × (page.new ≡ with_rows page.old 0 (schemas_from call.now.terms.now call.now.bytes.now moment 0)) }
 {
     let mut to: usize = 0;
-    for schema in 0..schema_count(table) {
-        to = write_schema(terms, log, table, schema, moment, page, to);
+    for schema in 0..call.layout.schemas {
+        to = write_schema(call, schema, moment, page, to);
     }
     to / ROW_LENGTH
 }

@@ -1,4 +1,3 @@
--- What the proofs of the four functions cite, and the split of their answers.
-pub mod Serving
+-- Bounds on what is counted, and the split of the answers of the four functions.
 pub mod Values
 pub mod Split

@@ -23,6 +23,7 @@ pub fn agreements_check_log(terms: &[u8], log: &[u8], used: usize) -> u64
 }
 
 // Call 3: append an event to a log.
+#[tactic(auto, unfolding(calls::specs::Calls::served))]
 pub fn agreements_append(terms: &[u8], log: &mut [u8], used: usize, event: &[u8]) -> u64
     ensures { (result, log.new) ≡ served (append value_width terms.now log.old used event.now) }
 {
@@ -30,6 +31,7 @@ pub fn agreements_append(terms: &[u8], log: &mut [u8], used: usize, event: &[u8]
 }
 
 // Call 4: report at a moment.
+#[tactic(auto, unfolding(calls::specs::Calls::served))]
 pub fn agreements_report(terms: &[u8], log: &[u8], used: usize, moment: u32, page: &mut [u8]) -> u64
     ensures { (result, page.new) ≡ served (report value_width terms.now log.now used moment page.old) }
 {

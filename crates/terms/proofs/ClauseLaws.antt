@@ -10,7 +10,7 @@ use Rattle.format.specs.Grammar.{expr_limit, file_of}
 use Rattle.format.specs.Fields.{schema_from, expr_at, terms_of}
 use Rattle.format.proofs.ExprLaws.{expr-clause}
 use Rattle.grammar.specs.Places.{Starts}
-use Rattle.terms.proofs.Steps.{schema-here}
+use Rattle.fields.proofs.Schemas.{schema-here}
 
 module _ (s starts : List ℕ) (n : ℕ) (laid : Starts s (file_of s).schemas starts) (h : n < length (file_of s).schemas) where
   -- the clause c

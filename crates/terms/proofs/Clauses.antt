@@ -1,7 +1,7 @@
 -- A test of leaves over an expression as the code reads it: one lemma for each answer.
 --     stands_here, stands-item, stands-leaf an expression and its first item are within the bytes
 --     leaf-found, leaf-past, always-past    at a leaf, and at always
---     stands-first, stands-second           the operands of a connective stand behind its byte
+--     stands-first, stands-second           the operands of a connective stand after its byte
 --     first_found, second_walks             at a connective
 --     first-falls                           fewer items are left for the second operand
 -- Assumes nothing.
@@ -28,6 +28,7 @@ use Rattle.grammar.specs.declared.Item.TheVariants.{Kind, Schema, Leaf, Always, 
 use Rattle.grammar.specs.declared.Spot.{Spot}
 use Rattle.grammar.specs.Items.{code_of, body_of}
 use Rattle.grammar.proofs.Steps.{Connects, connects-code}
+use Rattle.fields.proofs.Expressions.{connects-body}
 use Rattle.fields.specs.Decoded.{LeafAt, leaf_item}
 use Rattle.terms.specs.Questions.{clause_has, WalkedOver, Walks}
 
@@ -55,6 +56,10 @@ module _ (s : List ℕ) (at items : ℕ) (w : StandsExpr s at items) where
   stands-leaf is e = (is, e, (leaf-is items items s at w.0 w.1 w.2 (as-leaf is) (sym e)).2)
 
 module _ (s : List ℕ) (P : (List ℕ → Bool) → Type 0) (at items : ℕ) where
+  -- no expression starts with the item of a kind or of a schema
+  unread : (x : E) (t : List ℕ) → read_expr items items (drop at s) ≡ some (x, t) → byte_at s at < 3 → ⊥
+  unread x t found h = none-some (sym (read_none items items s at (λ low high. omega arith)) ∙ found)
+
   module _ {item : Item} (is : LeafAt s at item) {b : Bool} (h : (q : List ℕ → Bool) → P q → b ≡ q (leaf_item s at item)) where
     -- a leaf that passes it
     pub leaf-found : b ≡ true → Walks s P at items None
@@ -70,24 +75,18 @@ module _ (s : List ℕ) (P : (List ℕ → Bool) → Type 0) (at items : ℕ) wh
         let end : at + suc (body_of item) ≡ at + 1 + body_of item = omega arith in
         (λ q asks. rw (l.0, ← h q asks, b), rw (← end) l.1, omega (arith, is.2), omega (arith, (expr-read items items (drop at s) x t found).1))
 
-  -- always: of the items that can be read, what is neither a leaf nor a connective
+  -- always: no other item is left that can be read
   pub always-past : {item : Item} → (item ≡ Always) ⊎ ((item ≡ Kind) ⊎ (item ≡ Schema)) → code_of item ≡ byte_at s at → at < length s
-      → Walks s P at items (Some (record { at = at + 1; items = items - 1 }))
+      → Walks s P at items (Some (record { at = at + 1 + body_of item; items = items - 1 }))
   unfolding clause_has leaves any_of size
-  always-past {item} is e inside x t found =
-      let l = always-is items items s at x t found (λ low high. low-code is low high) (λ f. no-count is f) in
+  always-past {item} (inl g) e inside x t found =
+      let f : 7 ≡ byte_at s at = rw g at e in
+      let l = always-is items items s at x t found (λ low high. omega arith) (λ h. omega arith) in
       let one : size x ≡ 1 = ap size l.0 in
-      (λ q asks. rw l.0, l.1, omega arith, omega (arith, (expr-read items items (drop at s) x t found).1))
-    where
-      low-code : (item ≡ Always) ⊎ ((item ≡ Kind) ⊎ (item ≡ Schema)) → 3 ≤ byte_at s at → byte_at s at ≤ 6 → ⊥
-      low-code (inl g) low high = let f : 7 ≡ byte_at s at = rw g at e in omega arith
-      low-code (inr (inl g)) low high = let f : 1 ≡ byte_at s at = rw g at e in omega arith
-      low-code (inr (inr g)) low high = let f : 2 ≡ byte_at s at = rw g at e in omega arith
-
-      no-count : (item ≡ Always) ⊎ ((item ≡ Kind) ⊎ (item ≡ Schema)) → byte_at s at ≡ 8 → ⊥
-      no-count (inl g) h = let f : 7 ≡ byte_at s at = rw g at e in omega arith
-      no-count (inr (inl g)) h = let f : 1 ≡ byte_at s at = rw g at e in omega arith
-      no-count (inr (inr g)) h = let f : 2 ≡ byte_at s at = rw g at e in omega arith
+      let end : at + 1 ≡ at + 1 + body_of item = omega (arith, ap body_of g) in
+      (λ q asks. rw l.0, rw (← end) l.1, omega arith, omega (arith, (expr-read items items (drop at s) x t found).1))
+  always-past (inr (inl g)) e inside x t found = let f : 1 ≡ byte_at s at = rw g at e in absurd (unread x t found (omega arith))
+  always-past (inr (inr g)) e inside x t found = let f : 2 ≡ byte_at s at = rw g at e in absurd (unread x t found (omega arith))
 
   module _ {item : Item} (is : Connects item) (here : code_of item ≡ byte_at s at) where
     -- the connective
@@ -98,34 +97,37 @@ module _ (s : List ℕ) (P : (List ℕ → Bool) → Type 0) (at items : ℕ) wh
     parts : (x : E) (t : List ℕ) → read_expr items items (drop at s) ≡ some (x, t) → Parts j.join items s at x t
     parts x t found = join_is j.is items items s at x t refl found
 
-    -- the first stands behind its byte
-    pub stands-first : StandsExpr s at items → StandsExpr s (at + 1) (items - 1)
-    stands-first w = let p = parts w.0 w.1 w.2 in (p.a, p.u, p.first)
+    -- the first stands right after its byte
+    first-at : at + 1 + body_of item ≡ at + 1
+    first-at = omega (arith, connects-body is)
+
+    pub stands-first : StandsExpr s at items → StandsExpr s (at + 1 + body_of item) (items - 1)
+    stands-first w = let p = parts w.0 w.1 w.2 in rw first-at (p.a, p.u, p.first)
 
     -- the first has it
-    pub first_found : Walks s P (at + 1) (items - 1) None → Walks s P at items None
+    pub first_found : Walks s P (at + 1 + body_of item) (items - 1) None → Walks s P at items None
     first_found walks x t found q asks =
         let p = parts x t found in
-        let has : clause_has q p.a ≡ true = walks p.a p.u p.first q asks in
+        let has : clause_has q p.a ≡ true = (rw first-at at walks) p.a p.u p.first q asks in
         rw (p.is, join-has j.is.is q p.a p.b, has)
 
-    module _ (second : Spot) (walks : Walks s P (at + 1) (items - 1) (Some second)) where
+    module _ (second : Spot) (walks : Walks s P (at + 1 + body_of item) (items - 1) (Some second)) where
       -- what the first leaves
-      behind : (x : E) (t : List ℕ) (found : read_expr items items (drop at s) ≡ some (x, t)) → let p = parts x t found in
+      left : (x : E) (t : List ℕ) (found : read_expr items items (drop at s) ≡ some (x, t)) → let p = parts x t found in
           ((q : List ℕ → Bool) → P q → clause_has q p.a ≡ false) × (read_expr second.items second.items (drop second.at s) ≡ some (p.b, t)) × (size p.a + second.items ≡ items - 1)
-      behind x t found =
+      left x t found =
           let p = parts x t found in
-          let w : WalkedOver s P (items - 1) p.a p.u (Some second) = walks p.a p.u p.first in
+          let w : WalkedOver s P (items - 1) p.a p.u (Some second) = (rw first-at at walks) p.a p.u p.first in
           let rest : items - 1 - size p.a ≡ second.items = omega arith in
           (w.0, rw (← rest, ← w.1) p.second, w.3)
 
-      -- the second stands behind the first
+      -- the second stands after the first
       pub stands-second : StandsExpr s at items → StandsExpr s second.at second.items
-      stands-second w = ((parts w.0 w.1 w.2).b, w.1, (behind w.0 w.1 w.2).1)
+      stands-second w = ((parts w.0 w.1 w.2).b, w.1, (left w.0 w.1 w.2).1)
 
       -- fewer items are left for it
       pub first-falls : StandsExpr s at items → second.items < items
-      first-falls w = omega (arith, (behind w.0 w.1 w.2).2, (expr-read items items (drop at s) w.0 w.1 w.2).1, size-positive w.0)
+      first-falls w = omega (arith, (left w.0 w.1 w.2).2, (expr-read items items (drop at s) w.0 w.1 w.2).1, size-positive w.0)
 
       -- what is found in the second
       pub second_walks : (r : Option Spot) → Walks s P second.at second.items r → Walks s P at items r
@@ -135,7 +137,7 @@ module _ (s : List ℕ) (P : (List ℕ → Bool) → Type 0) (at items : ℕ) wh
           p = parts x t found
 
           l : ((q : List ℕ → Bool) → P q → clause_has q p.a ≡ false) × (read_expr second.items second.items (drop second.at s) ≡ some (p.b, t)) × (size p.a + second.items ≡ items - 1)
-          l = behind x t found
+          l = left x t found
 
           same : (q : List ℕ → Bool) → P q → clause_has q x ≡ clause_has q p.b
           same q asks = ap (clause_has q) p.is ∙ join-has j.is.is q p.a p.b ∙ ap (λ (b : Bool). b || clause_has q p.b) (l.0 q asks)

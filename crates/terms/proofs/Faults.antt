@@ -3,28 +3,25 @@
 --     field-faults, citation-faults, unshared-faults   refusals 3, 4 and 5 as faults of schemas by number
 --     field-here, citation-here, unshared-here         the fault at one schema, by the items of its clauses
 --     grammar-here                                     refusal 2 by the counts and by where the bytes left unread start
---     layout-few, layout-placed                        what a layout tells of the places
 -- Assumes nothing.
-use Prim.Native.Nat.{ℕ, suc, ◌+◌, ◌*◌, ◌≤◌, ◌<◌}
+use Prim.Native.Nat.{ℕ, suc, ◌+◌, ◌<◌}
 use native.Mathlib.Nat.{add-zero, zero-add}
 use native.Mathlib.Omega.{arith}
 use mathlib.Core.Path.{◌≡◌, refl, ap, sym, ◌∙◌}
 use mathlib.Core.Bool.{Bool, ◌||◌, or_assoc}
 use mathlib.Core.List.{List, [], ◌∷◌}
 use lib.Dec.{eqb, ltb, eqb-suc-zero}
-use lib.ListN.{length, get_or, take, length-map}
-use lib.Seq.{length-take-le, get_or-take}
+use lib.ListN.{length, get_or, length-map}
 use Rattle.meaning.specs.Lists.{numbers_from, is_empty, any_of}
 use Rattle.meaning.specs.Terms.{Expr, schema_at}
-use Rattle.format.specs.Grammar.{schemas_limit, file_of, breaks_grammar}
+use Rattle.format.specs.Grammar.{file_of, breaks_grammar}
 use Rattle.format.specs.Fields.{expr_from, schema_from, terms_from, head_wrong, leaf_wrong, kind_wrong, schema_wrong, kinds_wrong, field_wrong, any_event, cites_from, shares_none, cites_too_high, citation_wrong, unshared_in, unshared_event, terms_of}
-use Rattle.format.proofs.GrammarLaws.{file-read}
 use Rattle.format.proofs.PlaceLaws.{left_over}
 use Rattle.format.proofs.ExprLaws.{any-event}
 use Rattle.grammar.specs.declared.Layout.{Layout}
-use Rattle.grammar.specs.Places.{no_items, Placed, LaidOut}
+use Rattle.grammar.specs.Places.{no_items, LaidOut}
 use Rattle.terms.specs.Questions.{leaf_cites, leaf_unshared, clause_has, clauses_have}
-use Rattle.terms.proofs.Steps.{schema-here}
+use Rattle.fields.proofs.Schemas.{schema-here}
 
 -- a test of a list's elements, by their numbers from k on
 any-from : {A : Type 0} (p : A → Bool) (d : A) (f : ℕ → Bool) (k : ℕ) (l : List A) → ((i : ℕ) → f (k + i) ≡ p (get_or l i d))
@@ -106,20 +103,4 @@ empty-count (x ∷ l) = sym (eqb-suc-zero (length l))
 -- refusal 2
 pub grammar-here : (s : List ℕ) (p : Layout) → LaidOut s p → breaks_grammar (file_of s) ≡ (eqb p.kinds 0 || eqb p.schemas 0 || ltb p.rest (length s))
 unfolding breaks_grammar
-grammar-here s p laid = rw (empty-count (file_of s).kinds, empty-count (file_of s).schemas, ← laid.kinds_read, ← laid.schemas_read, ← laid.rest_read.0, left_over s p.rest)
-
--- a layout's array has room for all starts
-pub layout-few : (s : List ℕ) (p : Layout) → LaidOut s p → p.schemas ≤ 16
-unfolding schemas_limit
-layout-few s p laid = omega (arith, laid.schemas_read, (file-read s).2)
-
--- a layout tells the places
-pub layout-placed : (s : List ℕ) (p : Layout) → LaidOut s p → length p.starts ≡ 48 → Placed s p.kinds (take (3 * p.schemas) p.starts)
-layout-placed s p laid long = (
-  laid.kinds_read,
-  length-take-le (3 * p.schemas) p.starts (omega (arith, layout-few s p laid)) ∙ ap (λ (k : ℕ). 3 * k) laid.schemas_read,
-  λ n h. rw (here (3 * n) (omega (arith, laid.schemas_read)), here (3 * n + 1) (omega (arith, laid.schemas_read)), here (3 * n + 2) (omega (arith, laid.schemas_read))) (laid.starts_read n h),
-)
-  where
-    here : (k : ℕ) → k < 3 * p.schemas → get_or (take (3 * p.schemas) p.starts) k 0 ≡ get_or p.starts k 0
-    here k h = get_or-take (3 * p.schemas) p.starts k 0 h
+grammar-here s p laid = rw (empty-count (file_of s).kinds, empty-count (file_of s).schemas, ← laid.placed.0, ← laid.placed.1, ← laid.rest_read.0, left_over s p.rest)

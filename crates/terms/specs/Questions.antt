@@ -7,9 +7,8 @@ use Rattle.format.specs.Grammar.{size, read_expr, file_of, read_clause}
 use Rattle.format.specs.Fields.{leaf_from, cites_from, shares_none}
 use Rattle.grammar.specs.declared.Item.{Item}
 use Rattle.grammar.specs.declared.Spot.{Spot}
-use Rattle.grammar.specs.Places.{no_items, Placed}
+use Rattle.grammar.specs.Places.{no_items}
 use Rattle.fields.specs.Decoded.{LeafAt, leaf_item}
-use Rattle.terms.specs.declared.Places.{Places}
 
 -- some event of a leaf cites a stage that does not rank below k
 unfoldable pub leaf_cites : ℕ → List ℕ → Bool
@@ -51,7 +50,3 @@ clauses_have s p n =
 -- the clause that is read at a place
 abbrev pub ClauseAt : List ℕ → ℕ → Expr (List ℕ) → Type 0
 ClauseAt s at x = (t : List ℕ) × (read_clause (drop at s) ≡ some (x, t))
-
--- the terms have so many kinds, and their clauses start there
-abbrev pub ArePlaced : Places → Type 0
-ArePlaced p = Placed p.terms.now p.kinds p.starts.now

@@ -1,7 +1,7 @@
 // Call 1, check terms: the grammar, then fields, citations and shared attributes, each over the whole file.
 #![tactic(auto)]
 
-ghost use Rattle.std.specs.Prelude.{◌≡◌, Bool, List, ◌∷◌, ◌++◌, ℕ, ◌+◌, ◌-◌, ◌*◌, ◌<◌, ◌≤◌, length, get_or, take, drop};
+ghost use Rattle.std.specs.Prelude.{◌≡◌, Bool, List, ◌∷◌, ◌++◌, ℕ, ◌<◌, get_or};
 ghost use Rattle.meaning.specs.declared.Event.{Event};
 ghost use Rattle.meaning.specs.Lists.{numbers_from, any_of};
 ghost use Rattle.meaning.specs.Terms.{Expr, schema_at, kind_of, rank, bound_events, leaf_events};
@@ -10,13 +10,13 @@ ghost use Rattle.format.specs.Fields.{schema_wrong, cites_too_high, unshared_in,
 ghost use Rattle.calls.specs.Answers.{checked_answer};
 ghost use Rattle.calls.specs.Calls.{check_terms};
 ghost use Rattle.grammar.specs.Found.{StandsExpr};
-ghost use Rattle.grammar.specs.Places.{no_items, LaidOut};
+ghost use Rattle.grammar.specs.Places.{no_items};
 ghost use Rattle.fields.specs.Decoded.{LeafAt, leaf_item};
-ghost use Rattle.terms.specs.Questions.{leaf_cites, leaf_unshared, MayAsk, Asks, clause_has, Walks, clauses_have, ClauseAt, ArePlaced};
+ghost use Rattle.terms.specs.Questions.{leaf_cites, leaf_unshared, MayAsk, Asks, clause_has, Walks, clauses_have, ClauseAt};
 
 use calls::Refusal;
-use fields::mask_of;
-use grammar::{EXPRESSION_LIMIT, Item, Layout, Spot, item_at};
+use fields::{Places, leaf_wrong};
+use grammar::{EXPRESSION_LIMIT, Item, Outline, Spot, item_at};
 use meaning::{Atom, Bound, Event, Stage};
 
 // The most bytes of terms.
@@ -27,7 +27,7 @@ pub const TERMS_LIMIT: usize = 16384;
 pub fn rank(stage: Stage, schema: u8) -> usize
     ensures { result ≡ rank stage schema }
 {
-    let create = 3 * (schema as usize);
+    let create = 3 * usize::from(schema);
     match stage {
         Stage::Created => create,
         Stage::Detached => create + 1,
@@ -108,28 +108,19 @@ fn expression_has<F: Fn(usize, usize, Item) -> bool>(
     ensures { Walks terms.now (Asks terms.now (F.post test.now rank)) spot.at spot.items result }
 {
     let item = item_at(terms, spot.at)?;
+    let rest = spot.after(item);
     match item {
         Item::Leaf | Item::Count => {
             if test(rank, spot.at, item) {
                 return None;
             }
-            Some(Spot {
-                at: spot.at + 1 + item.body(),
-                items: spot.items - 1,
-            })
+            Some(rest)
         }
         Item::And | Item::Or | Item::Except => {
-            let first = Spot {
-                at: spot.at + 1,
-                items: spot.items - 1,
-            };
-            let second = expression_has(terms, rank, first, test)?;
+            let second = expression_has(terms, rank, rest, test)?;
             expression_has(terms, rank, second, test)
         }
-        Item::Always | Item::Kind | Item::Schema => Some(Spot {
-            at: spot.at + 1,
-            items: spot.items - 1,
-        }),
+        Item::Always | Item::Kind | Item::Schema => Some(rest),
     }
 }
 
@@ -146,170 +137,130 @@ fn some_below<F: Fn(usize) -> bool>(limit: usize, test: F) -> bool
     false
 }
 
-// Where things stand in terms: how many kinds they declare, and where the clause of each rank starts.
-#[derive(Clone, Copy)]
-struct Places<'a> {
-    terms: &'a [u8],
-    kinds: usize,
-    starts: &'a [usize],
+// Whether an event's kind and the subject kind have no attribute in common.
+fn shares_none(places: Places<'_>, subject: u8, event: Event) -> bool
+    ensures { result ≡ shares_none (terms_of places.entry.terms.now) subject event }
+{
+    let kinds = places.kinds();
+    kinds.mask_of(places.kind_of(event)) & kinds.mask_of(subject) == 0
 }
 
-impl Places<'_> {
-    // Where the body of a schema's item 02 starts: right before its create clause.
-    fn head_at(&self, n: usize) -> usize
-        requires { (3 * n < length self.now.starts.now) × (4 ≤ get_or self.now.starts.now (3 * n) 0) }
-        ensures { result ≡ get_or self.now.starts.now (3 * n) 0 - 4 }
-    {
-        self.starts[3 * n] - 4
-    }
+// Whether the kind of some event of the leaf whose item, 03 or 08, starts at a place shares nothing with the subject kind.
+fn leaf_unshared(places: Places<'_>, subject: u8, at: usize, item: Item) -> bool
+    requires { LeafAt places.terms.now at item }
+    ensures { result ≡ leaf_unshared (terms_of places.entry.terms.now) subject (leaf_item places.entry.terms.now at item) }
+{
+    let leaf = fields::leaf_at(places.terms, at, item);
+    some_event_has(leaf, &|event| shares_none(places, subject, event))
+}
 
-    // The subject kind of a schema; past the last schema it is 0.
-    fn subject_of(&self, schema: usize) -> u8
-        requires { ArePlaced self.now }
-        ensures { result ≡ (schema_at (terms_of self.now.terms.now) schema).subject }
-    {
-        if self.starts.len() / 3 <= schema {
-            return 0;
-        }
-        self.terms[self.head_at(schema) + 1]
-    }
+// Whether some leaf of the clause of a rank passes a test.
+fn clause_has<F: Fn(usize, usize, Item) -> bool>(places: Places<'_>, rank: usize, test: &F) -> bool
+    requires clause { (rank < 48) × ((x : Expr (List ℕ)) × ClauseAt places.terms.now (get_or places.starts.now rank 0) x) }
+    requires test { MayAsk places.terms.now (F.pre test.now rank) }
+    ensures { (p : List ℕ → Bool) → Asks places.entry.terms.now (F.post test.now rank) p → (x : Expr (List ℕ)) → ClauseAt places.entry.terms.now (get_or places.entry.starts.now rank 0) x → result ≡ clause_has p x }
+{
+    let clause = Spot {
+        at: places.start(rank),
+        items: EXPRESSION_LIMIT,
+    };
+    expression_has(places.terms, rank, clause, test).is_none()
+}
 
-    // The kind of the records by which an event happens.
-    #[tactic(auto, unfolding(meaning::specs::Terms::kind_of))]
-    fn kind_of(&self, event: Event) -> u8
-        requires { ArePlaced self.now }
-        ensures { result ≡ kind_of (terms_of self.now.terms.now) event }
-    {
-        match event {
-            Event::Kind(k) => k,
-            Event::StageOf(_, schema) => self.subject_of(schema as usize),
-        }
+// Whether some leaf of the schema with a number passes a test: its clauses rank 3n, 3n + 1 and 3n + 2.
+fn clauses_have<F: Fn(usize, usize, Item) -> bool>(places: Places<'_>, n: usize, test: &F) -> bool
+    requires schema { n < places.schemas }
+    requires test { (rank : ℕ) → rank < 48 → MayAsk places.terms.now (F.pre test.now rank) }
+    ensures { (p : ℕ → List ℕ → Bool) → ((rank : ℕ) → rank < 48 → Asks places.entry.terms.now (F.post test.now rank) (p rank)) → result ≡ clauses_have places.entry.terms.now p n }
+{
+    if clause_has(places, 3 * n, test) {
+        return true;
     }
+    if clause_has(places, 3 * n + 1, test) {
+        return true;
+    }
+    clause_has(places, 3 * n + 2, test)
+}
 
-    // Whether an event's kind and the subject kind have no attribute in common.
-    fn shares_none(&self, subject: u8, event: Event) -> bool
-        requires { ArePlaced self.now }
-        ensures { result ≡ shares_none (terms_of self.now.terms.now) subject event }
-    {
-        let kind = self.kind_of(event);
-        mask_of(self.terms, self.kinds, kind) & mask_of(self.terms, self.kinds, subject) == 0
+// Refusal 3 at the schema with a number.
+fn schema_wrong(places: Places<'_>, n: usize) -> bool
+    requires { n < places.schemas }
+    ensures { result ≡ schema_wrong (terms_of places.entry.terms.now) (get_or (file_of places.entry.terms.now).schemas n no_items) }
+{
+    if places.kinds().head_wrong(places.head_at(n)) {
+        return true;
     }
+    clauses_have(
+        places,
+        n,
+        &|_, at, item| leaf_wrong(places.terms, places.kinds, at, item),
+    )
+}
 
-    // Whether the kind of some event of the leaf whose item, 03 or 08, starts at a place shares nothing with the subject kind.
-    fn leaf_unshared(&self, subject: u8, at: usize, item: Item) -> bool
-        requires { ArePlaced self.now × LeafAt self.now.terms.now at item }
-        ensures { result ≡ leaf_unshared (terms_of self.now.terms.now) subject (leaf_item self.now.terms.now at item) }
-    {
-        let leaf = fields::leaf_at(self.terms, at, item);
-        some_event_has(leaf, &|event| self.shares_none(subject, event))
-    }
+// Refusal 4 at the schema with a number.
+fn schema_cites(places: Places<'_>, n: usize) -> bool
+    requires { n < places.schemas }
+    ensures { result ≡ cites_too_high (terms_of places.entry.terms.now) n }
+{
+    clauses_have(
+        places,
+        n,
+        &|rank, at, item| leaf_cites(places.terms, rank, at, item),
+    )
+}
 
-    // Whether some leaf of the clause of a rank passes a test.
-    fn clause_has<F: Fn(usize, usize, Item) -> bool>(&self, rank: usize, test: &F) -> bool
-        requires clause { (rank < length self.now.starts.now) × ((x : Expr (List ℕ)) × ClauseAt self.now.terms.now (get_or self.now.starts.now rank 0) x) }
-        requires test { MayAsk self.now.terms.now (F.pre test.now rank) }
-        ensures { (p : List ℕ → Bool) → Asks self.now.terms.now (F.post test.now rank) p → (x : Expr (List ℕ)) → ClauseAt self.now.terms.now (get_or self.now.starts.now rank 0) x → result ≡ clause_has p x }
-    {
-        let clause = Spot {
-            at: self.starts[rank],
-            items: EXPRESSION_LIMIT,
-        };
-        expression_has(self.terms, rank, clause, test).is_none()
-    }
+// Refusal 5 at the schema with a number.
+fn schema_unshared(places: Places<'_>, n: usize) -> bool
+    requires { n < places.schemas }
+    ensures { result ≡ unshared_in (terms_of places.entry.terms.now) (schema_at (terms_of places.entry.terms.now) n) }
+{
+    let subject = places.subject_of(n);
+    clauses_have(
+        places,
+        n,
+        &|_, at, item| leaf_unshared(places, subject, at, item),
+    )
+}
 
-    // Whether some leaf of the schema with a number passes a test: its clauses rank 3n, 3n + 1 and 3n + 2.
-    fn clauses_have<F: Fn(usize, usize, Item) -> bool>(&self, n: usize, test: &F) -> bool
-        requires placed { ArePlaced self.now × (3 * n < length self.now.starts.now) }
-        requires test { (rank : ℕ) → rank < length self.now.starts.now → MayAsk self.now.terms.now (F.pre test.now rank) }
-        ensures { (p : ℕ → List ℕ → Bool) → ((rank : ℕ) → rank < length self.now.starts.now → Asks self.now.terms.now (F.post test.now rank) (p rank)) → result ≡ clauses_have self.now.terms.now p n }
-    {
-        if self.clause_has(3 * n, test) {
-            return true;
-        }
-        if self.clause_has(3 * n + 1, test) {
-            return true;
-        }
-        self.clause_has(3 * n + 2, test)
+// Refusal 3 anywhere in the file.
+fn field_wrong(places: Places<'_>) -> bool
+    ensures { result ≡ field_wrong (file_of places.entry.terms.now) }
+{
+    if some_below(places.kinds, |i| fields::kind_wrong(places.terms, i)) {
+        return true;
     }
-
-    // Refusal 3 at the schema with a number.
-    fn schema_wrong(&self, n: usize) -> bool
-        requires { ArePlaced self.now × (3 * n < length self.now.starts.now) }
-        ensures { result ≡ schema_wrong (terms_of self.now.terms.now) (get_or (file_of self.now.terms.now).schemas n no_items) }
-    {
-        if fields::head_wrong(self.terms, self.kinds, self.head_at(n)) {
-            return true;
-        }
-        self.clauses_have(
-            n,
-            &|_, at, item| fields::leaf_wrong(self.terms, self.kinds, at, item),
-        )
-    }
-
-    // Refusal 4 at the schema with a number.
-    fn schema_cites(&self, n: usize) -> bool
-        requires { ArePlaced self.now × (3 * n < length self.now.starts.now) }
-        ensures { result ≡ cites_too_high (terms_of self.now.terms.now) n }
-    {
-        self.clauses_have(n, &|rank, at, item| leaf_cites(self.terms, rank, at, item))
-    }
-
-    // Refusal 5 at the schema with a number.
-    fn schema_unshared(&self, n: usize) -> bool
-        requires { ArePlaced self.now × (3 * n < length self.now.starts.now) }
-        ensures { result ≡ unshared_in (terms_of self.now.terms.now) (schema_at (terms_of self.now.terms.now) n) }
-    {
-        let subject = self.subject_of(n);
-        self.clauses_have(n, &|_, at, item| self.leaf_unshared(subject, at, item))
-    }
-
-    // Refusal 3 anywhere in the file.
-    fn field_wrong(&self) -> bool
-        requires { ArePlaced self.now }
-        ensures { result ≡ field_wrong (file_of self.now.terms.now) }
-    {
-        if some_below(self.kinds, |i| fields::kind_wrong(self.terms, i)) {
-            return true;
-        }
-        some_below(self.starts.len() / 3, |n| self.schema_wrong(n))
-    }
+    some_below(places.schemas, |n| schema_wrong(places, n))
 }
 
 // Refusal 2: no kind, no schema, or bytes left unread.
-fn breaks_grammar(terms: &[u8], layout: Layout) -> bool
-    requires { LaidOut terms.now layout }
-    ensures { result ≡ breaks_grammar (file_of terms.now) }
+fn breaks_grammar(outline: &Outline<'_>) -> bool
+    ensures { result ≡ breaks_grammar (file_of outline.now.terms.now) }
 {
+    let layout = &outline.layout;
     if layout.kinds == 0 || layout.schemas == 0 {
         return true;
     }
-    layout.rest < terms.len()
+    layout.rest < outline.terms.len()
 }
 
-// Call 1, under a layout of the terms: callers that go on with the layout read it once.
-pub fn check_terms_under(terms: &[u8], layout: Layout) -> Result<(), Refusal>
-    requires { LaidOut terms.now layout }
-    ensures { checked_answer result ≡ check_terms terms.now }
+// Call 1, under an outline of the terms: callers that go on with it read it once.
+pub fn check_terms_under(outline: &Outline<'_>) -> Result<(), Refusal>
+    ensures { checked_answer result ≡ check_terms outline.now.terms.now }
 {
-    let starts = layout.starts;
-    let places = Places {
-        terms,
-        kinds: layout.kinds,
-        starts: &starts[..3 * layout.schemas],
-    };
-    if TERMS_LIMIT < terms.len() {
+    let places = Places::of(outline);
+    if TERMS_LIMIT < outline.terms.len() {
         return Err(Refusal::TermsTooLong);
     }
-    if breaks_grammar(terms, layout) {
+    if breaks_grammar(outline) {
         return Err(Refusal::BrokenGrammar);
     }
-    if places.field_wrong() {
+    if field_wrong(places) {
         return Err(Refusal::FieldOutOfRange);
     }
-    if some_below(layout.schemas, |n| places.schema_cites(n)) {
+    if some_below(places.schemas, |n| schema_cites(places, n)) {
         return Err(Refusal::CitationTooHigh);
     }
-    if some_below(layout.schemas, |n| places.schema_unshared(n)) {
+    if some_below(places.schemas, |n| schema_unshared(places, n)) {
         return Err(Refusal::NothingShared);
     }
     Ok(())
@@ -319,5 +270,5 @@ pub fn check_terms_under(terms: &[u8], layout: Layout) -> Result<(), Refusal>
 pub fn check_terms(terms: &[u8]) -> Result<(), Refusal>
     ensures { checked_answer result ≡ check_terms terms.now }
 {
-    check_terms_under(terms, grammar::read_layout(terms))
+    check_terms_under(&Outline::of(terms))
 }

@@ -5,22 +5,22 @@ use Rattle.format.specs.Bytes.{byte_at}
 use Rattle.format.specs.Fields.{bound_of}
 use Rattle.fields.proofs.bound_at.Goals as goal
 
-pub returns-in_err-event-in-Plus : goal.returns-in_err-event-in-Plus
+pub returns-in_err-event_of-in-Plus : goal.returns-in_err-event_of-in-Plus
 unfolding bound_of byte_at bind
-returns-in_err-event-in-Plus c =
-    rw (c.from_residual.ensures, sym (rw c.in-Plus.is at c.in-Ok.ensures), ← c.in_err-event-in-Plus.ensures)
+returns-in_err-event_of-in-Plus c =
+    rw (c.from_residual.ensures, sym (rw c.in-Plus.is at c.in-Ok.ensures), ← c.in_err-event_of-in-Plus.ensures)
 
-pub returns-in_err-event-in-Minus : goal.returns-in_err-event-in-Minus
+pub returns-in_err-event_of-in-Minus : goal.returns-in_err-event_of-in-Minus
 unfolding bound_of byte_at bind
-returns-in_err-event-in-Minus c =
-    rw (c.from_residual-in_err-event-in-Minus.ensures, sym (rw c.in-Minus.is at c.in-Ok.ensures), ← c.in_err-event-in-Minus.ensures)
+returns-in_err-event_of-in-Minus c =
+    rw (c.from_residual-in_err-event_of-in-Minus.ensures, sym (rw c.in-Minus.is at c.in-Ok.ensures), ← c.in_err-event_of-in-Minus.ensures)
 
-pub returns-in_ok-event-in-Plus : goal.returns-in_ok-event-in-Plus
+pub returns-in_ok-event_of-in-Plus : goal.returns-in_ok-event_of-in-Plus
 unfolding bound_of byte_at bind
-returns-in_ok-event-in-Plus c =
-    rw (sym (rw c.in-Plus.is at c.in-Ok.ensures), ← c.in_ok-event-in-Plus.ensures, ← c.u32_at-offset.ensures)
+returns-in_ok-event_of-in-Plus c =
+    rw (sym (rw c.in-Plus.is at c.in-Ok.ensures), ← c.in_ok-event_of-in-Plus.ensures, ← c.u32_at-offset.ensures)
 
-pub returns-in_ok-event-in-Minus : goal.returns-in_ok-event-in-Minus
+pub returns-in_ok-event_of-in-Minus : goal.returns-in_ok-event_of-in-Minus
 unfolding bound_of byte_at bind
-returns-in_ok-event-in-Minus c =
-    rw (sym (rw c.in-Minus.is at c.in-Ok.ensures), ← c.in_ok-event-in-Minus.ensures, ← c.u32_at-offset.ensures)
+returns-in_ok-event_of-in-Minus c =
+    rw (sym (rw c.in-Minus.is at c.in-Ok.ensures), ← c.in_ok-event_of-in-Minus.ensures, ← c.u32_at-offset.ensures)

@@ -1,6 +1,5 @@
 -- `count_wrong` meets its contract: each answer by the tests before it. Assumes nothing.
 use Prim.Native.Nat.{◌+◌}
-use native.Mathlib.Omega.{arith}
 use mathlib.Core.Path.{◌≡◌}
 use mathlib.Core.Bool.{true, false}
 use lib.Dec.{eqb}
@@ -9,22 +8,19 @@ use Rattle.format.specs.Bytes.{byte_at}
 use Rattle.fields.proofs.Leaves.{count-wrong-here}
 use Rattle.fields.proofs.count_wrong.Goals as goal
 
-pub overflow_cast-kind : goal.overflow_cast-kind
-overflow_cast-kind c = omega (arith, c.type_inv.terms (c.args.at + 1))
-
-pub returns-then-kinds-kind : goal.returns-then-kinds-kind
+pub returns-then-kinds-from : goal.returns-then-kinds-from
 unfolding byte_at
-returns-then-kinds-kind c t h = rw (count-wrong-here t _ _, ← h, le-leb _ _ c.if-kinds-kind.true)
+returns-then-kinds-from c t h = rw (count-wrong-here t _ _, ← h, le-leb _ _ (rw c.from.ensures at c.if-kinds-from.true))
 
 pub returns-then-terms-at : goal.returns-then-terms-at
 unfolding byte_at
 returns-then-terms-at c t h =
-    rw (count-wrong-here t _ _, ← h, lt-leb _ _ c.if-kinds-kind.false, eq-eqb _ _ c.if-terms-at.true)
+    rw (count-wrong-here t _ _, ← h, lt-leb _ _ (rw c.from.ensures at c.if-kinds-from.false), eq-eqb _ _ c.if-terms-at.true)
 
 pub returns-then-bound_wrong : goal.returns-then-bound_wrong
 unfolding byte_at
 returns-then-bound_wrong c t h =
-    rw (count-wrong-here t _ _, ← h, lt-leb _ _ c.if-kinds-kind.false, ne_eqb _ _ c.if-terms-at.false, ← c.bound_wrong.ensures t h, c.if-bound_wrong.true)
+    rw (count-wrong-here t _ _, ← h, lt-leb _ _ (rw c.from.ensures at c.if-kinds-from.false), ne_eqb _ _ c.if-terms-at.false, ← c.bound_wrong.ensures t h, c.if-bound_wrong.true)
 
 pub returns-then-terms-at-2 : goal.returns-then-terms-at-2
 unfolding byte_at
@@ -34,7 +30,7 @@ returns-then-terms-at-2 c t h =
     rw (
       count-wrong-here t _ _,
       ← h,
-      lt-leb _ _ c.if-kinds-kind.false,
+      lt-leb _ _ (rw c.from.ensures at c.if-kinds-from.false),
       ne_eqb _ _ c.if-terms-at.false,
       ← c.bound_wrong.ensures t h,
       c.if-bound_wrong.false,
@@ -49,7 +45,7 @@ returns c t h =
     rw (
       count-wrong-here t _ _,
       ← h,
-      lt-leb _ _ c.if-kinds-kind.false,
+      lt-leb _ _ (rw c.from.ensures at c.if-kinds-from.false),
       ne_eqb _ _ c.if-terms-at.false,
       ← c.bound_wrong.ensures t h,
       c.if-bound_wrong.false,

@@ -6,7 +6,7 @@ use mathlib.Core.List.{List, [], ◌∷◌, ◌++◌}
 use lib.ListN.{length, drop, length-append}
 use Rattle.format.specs.Bytes.{many, item}
 use Rattle.format.specs.Grammar.{kinds_limit, file_of}
-use Rattle.format.proofs.ReaderLaws.{so_far, so-far-step, so-far-none, so-far-full}
+use Rattle.format.proofs.ReaderLaws.{so-far-step, so-far-none, so-far-full}
 use Rattle.grammar.proofs.Steps.{item-ends}
 use Rattle.grammar.proofs.count_kinds.Goals as goal
 
@@ -15,9 +15,6 @@ counted : (s : List ℕ) (n : ℕ) (done : List (List ℕ)) → length done ≡ 
     → (n ≡ length (file_of s).kinds) × (drop (5 * n) s ≡ (many (item 1 4) kinds_limit s).1) × (5 * n ≤ length s)
 unfolding file_of
 counted s n done e h f = rw f (sym e, refl, h)
-
-pub loop-n-init : goal.loop-n-init
-loop-n-init c = ([], refl, so_far (item 1 4) kinds_limit c.args.s.now, omega arith)
 
 pub returns-in_default : goal.returns-in_default
 returns-in_default c =

@@ -35,6 +35,3 @@ returns-then-s-at c =
 pub item_end-requires : goal.item_end-requires
 unfolding byte_at
 item_end-requires c = (c.if-s-at.false, sym (c.if-s-at-2.false ∙ code-is c.args.kind))
-
-pub returns : goal.returns
-returns c = c.item_end.ensures

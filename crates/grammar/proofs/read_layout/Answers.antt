@@ -1,4 +1,4 @@
--- `read_layout` meets its contract: so many schemas are read behind the kinds, and their clauses start where they are put down. Assumes nothing.
+-- `read_layout` meets its contract: so many schemas are read after the kinds, and their clauses start where they are put down. Assumes nothing.
 use Prim.Native.Nat.{ℕ, ◌*◌, ◌≤◌}
 use native.Mathlib.Omega.{arith}
 use mathlib.Core.Path.{◌≡◌, refl, sym}
@@ -20,7 +20,7 @@ laid_out : (s : List ℕ) (p : Layout) (kinds : ℕ) (done : List SchemaItems)
 unfolding file_of
 laid_out s p kinds done k e g h f whole =
     let all = rw k.1 at whole in
-    record { kinds_read = rw g k.0; schemas_read = rw all (sym e); rest_read = rw all (refl, h); starts_read = rw all f }
+    record { placed = (rw g k.0, rw all (sym e), rw all f); rest_read = rw all (refl, h) }
 
 pub returns-in_default : goal.returns-in_default
 returns-in_default c =

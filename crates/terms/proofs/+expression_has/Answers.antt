@@ -29,61 +29,47 @@ returns-then-test g t c =
     let is = leaf-here g t (goal.at.returns-then-test g t c).In-Leaf in
     leaf-found _ _ a.spot.at a.spot.items is {b = c.test.result} (λ p asks. asks _ _ _ is c.test.ensures) c.if-test.true
 
-pub overflow_add-result : goal.overflow_add-result
-overflow_add-result g t c = omega (arith, here g t (goal.at.overflow_add-result g t c).Start)
+pub after-rest-requires-clause-kind_byte : goal.after-rest-requires-clause-kind_byte
+after-rest-requires-clause-kind_byte g t c = omega (arith, here g t (goal.at.after-rest-requires-clause-kind_byte g t c).Start)
 
-pub overflow_add-result-in-Leaf : goal.overflow_add-result-in-Leaf
-overflow_add-result-in-Leaf g t c = omega (arith, c.body.ensures, (leaf-here g t (goal.at.overflow_add-result-in-Leaf g t c).In-Leaf).2)
-
-pub overflow_sub-result : goal.overflow_sub-result
-overflow_sub-result g t c = omega (arith, here g t (goal.at.overflow_sub-result g t c).Start)
-
-pub overflow_add-first : goal.overflow_add-first
-overflow_add-first g t c = omega (arith, here g t (goal.at.overflow_add-first g t c).Start)
-
-pub overflow_sub-first : goal.overflow_sub-first
-overflow_sub-first g t c = omega (arith, here g t (goal.at.overflow_sub-first g t c).Start)
+pub after-rest-requires-clause-items : goal.after-rest-requires-clause-items
+after-rest-requires-clause-items g t c = (here g t (goal.at.after-rest-requires-clause-items g t c).Start).1
 
 pub expression_has-requires : goal.expression_has-requires
 expression_has-requires g t c =
     λ κs lives. (
-      omega (arith, here g t (goal.at.expression_has-requires g t c).Start),
-      (lives, (stands-first _ (λ p. Unit {0}) _ _ c.in-And.is c.in_ok-item.ensures c.requires.0, c.requires.1)),
+      rw c.after-rest.ensures (omega (arith, here g t (goal.at.expression_has-requires g t c).Start)),
+      (lives, (rw c.after-rest.ensures (stands-first _ (λ p. Unit {0}) _ _ c.in-And.is c.in_ok-item.ensures c.requires.0), c.requires.1)),
     )
 
 pub returns-in_err-second-in-And : goal.returns-in_err-second-in-And
 returns-in_err-second-in-And g t c =
     let a = c.args in
-    rw c.from_residual-in_err-second-in-And.ensures (first_found _ _ a.spot.at a.spot.items c.in-And.is c.in_ok-item.ensures c.in_err-second-in-And.ensures)
+    rw c.from_residual-in_err-second-in-And.ensures (first_found _ _ a.spot.at a.spot.items {item = c.in_ok-item.item} c.in-And.is c.in_ok-item.ensures (rw c.after-rest.ensures at c.in_err-second-in-And.ensures))
 
 pub expression_has-requires-in-And : goal.expression_has-requires-in-And
 expression_has-requires-in-And g t c =
     let a = c.args in
     let w = c.requires.0 in
     let second = c.in_ok-second-in-And.second in
+    let walks = rw c.after-rest.ensures at c.in_ok-second-in-And.ensures in
     λ κs lives. (
-      omega (arith, first-falls _ _ a.spot.at a.spot.items c.in-And.is c.in_ok-item.ensures second c.in_ok-second-in-And.ensures w),
-      (lives, (stands-second _ _ a.spot.at a.spot.items c.in-And.is c.in_ok-item.ensures second c.in_ok-second-in-And.ensures w, c.requires.1)),
+      omega (arith, first-falls _ _ a.spot.at a.spot.items {item = c.in_ok-item.item} c.in-And.is c.in_ok-item.ensures second walks w),
+      (lives, (stands-second _ _ a.spot.at a.spot.items {item = c.in_ok-item.item} c.in-And.is c.in_ok-item.ensures second walks w, c.requires.1)),
     )
-
-pub overflow_add-result-in-Always : goal.overflow_add-result-in-Always
-overflow_add-result-in-Always g t c = omega (arith, here g t (goal.at.overflow_add-result-in-Always g t c).Start)
-
-pub overflow_sub-result-in-Always : goal.overflow_sub-result-in-Always
-overflow_sub-result-in-Always g t c = omega (arith, here g t (goal.at.overflow_sub-result-in-Always g t c).Start)
 
 pub returns-else-test : goal.returns-else-test
 returns-else-test g t c =
     let a = c.args in
     let is = leaf-here g t (goal.at.returns-else-test g t c).In-Leaf in
-    rw c.body.ensures (leaf-past _ _ a.spot.at a.spot.items is {b = c.test.result} (λ p asks. asks _ _ _ is c.test.ensures) c.if-test.false)
+    rw c.after-rest.ensures (leaf-past _ _ a.spot.at a.spot.items is {b = c.test.result} (λ p asks. asks _ _ _ is c.test.ensures) c.if-test.false)
 
 pub returns-in_ok-second-in-And : goal.returns-in_ok-second-in-And
 returns-in_ok-second-in-And g t c =
     let a = c.args in
-    second_walks _ _ a.spot.at a.spot.items c.in-And.is c.in_ok-item.ensures c.in_ok-second-in-And.second c.in_ok-second-in-And.ensures c.expression_has-in-And.result c.expression_has-in-And.ensures
+    second_walks _ _ a.spot.at a.spot.items {item = c.in_ok-item.item} c.in-And.is c.in_ok-item.ensures c.in_ok-second-in-And.second (rw c.after-rest.ensures at c.in_ok-second-in-And.ensures) c.expression_has-in-And.result c.expression_has-in-And.ensures
 
 pub returns-in-Always : goal.returns-in-Always
 returns-in-Always g t c =
     let a = c.args in
-    always-past _ _ a.spot.at a.spot.items c.in-Always.is c.in_ok-item.ensures (here g t (goal.at.returns-in-Always g t c).Start).0
+    rw c.after-rest.ensures (always-past _ _ a.spot.at a.spot.items {item = c.in_ok-item.item} c.in-Always.is c.in_ok-item.ensures (here g t (goal.at.returns-in-Always g t c).Start).0)

@@ -1,57 +1,55 @@
 -- `agreement_of` meets its contract: the key and the parties are carried. Assumes nothing.
-use Prim.Native.Nat.{◌+◌, ◌*◌, ◌≤◌}
+use Prim.Native.Nat.{◌+◌, ◌*◌, ◌-◌}
 use native.Mathlib.Omega.{arith}
-use mathlib.Core.Path.{◌≡◌, refl, sym}
+use mathlib.Core.Path.{◌≡◌}
 use mathlib.Core.Bool.{true}
-use lib.ListN.{length, drop}
-use Rattle.meaning.specs.Terms.{kind_at}
-use Rattle.meaning.specs.Log.{carries, carried}
+use lib.ListN.{get_or}
+use Rattle.meaning.specs.Log.{carries}
 use Rattle.format.specs.Bytes.{byte_at}
 use Rattle.format.specs.Fields.{terms_of}
-use Rattle.format.specs.Records.{value_width}
-use Rattle.table.specs.Table.{starts_from}
-use Rattle.table.proofs.TableLaws.{schemas-few}
-use Rattle.records.proofs.Steps.{stands-inside}
-use Rattle.records.proofs.Keys.{mask-there}
+use Rattle.fields.proofs.Schemas.{schemas_few}
+use Rattle.records.specs.Holds.{MaskOf}
 use Rattle.report.specs.Shown.{row_by}
 use Rattle.report.proofs.Parties.{parties-asked, row_is}
-use Rattle.report.proofs.rows.agreement_of.Goals.{After-head_at-head, After-mask_in}
+use Rattle.report.proofs.rows.agreement_of.Goals.{After-head_at-head}
 use Rattle.report.proofs.rows.agreement_of.Goals as goal
 
+-- where the schema's head starts
+head_is : (c : After-head_at-head) → let a = c.args.asked.now in c.head_at-head.result ≡ get_or a.subject.call.now.layout.now.starts (3 * a.schema) 0 - 4
+head_is c = rw c.places.ensures.1 at c.head_at-head.ensures.0
+
 -- the mask is that of the record's kind
-mask_is : (c : After-mask_in) → let a = c.args in c.mask_in.result ≡ (kind_at (terms_of a.terms.now) (byte_at a.log.now a.subject)).mask
-unfolding byte_at
-mask_is c =
-    mask-there (terms_of c.args.terms.now) c.args.table.now c.args.log.now c.args.subject c.requires.read.0 c.requires.stands c.mask_in.ensures
+mask_is : (c : After-head_at-head) → let a = c.args.asked.now in MaskOf (terms_of a.subject.call.now.terms.now) a.subject.call.now.bytes.now c.masked-carrier.result
+mask_is c = rw (c.record-record.ensures.0, c.record-record.ensures.1) at c.masked-carrier.ensures.mask_of
 
--- the record carries both parties, and is whole
-asked : (c : After-head_at-head) → let a = c.args in let mask = c.mask_in.result in
-    (carries mask (byte_at a.terms.now (c.head_at-head.result + 2)) ≡ true)
-    × (carries mask (byte_at a.terms.now (c.head_at-head.result + 3)) ≡ true)
-    × (a.subject + 5 + value_width * carried mask ≤ length a.log.now)
-unfolding byte_at
+-- the record carries both parties
+asked : (c : After-head_at-head) → let terms = c.args.asked.now.subject.call.now.terms.now in let mask = c.masked-carrier.result.mask in
+    (carries mask (byte_at terms (c.head_at-head.result + 2)) ≡ true) × (carries mask (byte_at terms (c.head_at-head.result + 3)) ≡ true)
 asked c =
-    parties-asked c.args.terms.now (drop starts_from c.args.table.now) c.args.schema c.requires.read.1.starts c.requires.schema_in_bounds
-    c.args.log.now c.args.subject c.requires.stands c.requires.of_subject_kind c.requires.read.1.right (mask-there (terms_of c.args.terms.now) c.args.table.now c.args.log.now c.args.subject c.requires.read.0 c.requires.stands c.mask_in.ensures) c.head_at-head.ensures.0
-
-pub bounds-log-subject : goal.bounds-log-subject
-bounds-log-subject c = stands-inside _ c.args.log.now c.args.subject c.requires.stands
+    let a = c.args.asked.now in
+    let call = a.subject.call.now in
+    parties-asked call.terms.now call.layout.now.starts a.schema call.placed.2 a.declared call.right call.bytes.now a.subject.at c.requires
+    (rw (c.masked-carrier.ensures.at_place, c.record-record.ensures.2) at (mask_is c)) (head_is c)
 
 pub overflow_cast-result : goal.overflow_cast-result
-overflow_cast-result c = omega (arith, c.requires.schema_in_bounds, schemas-few c.args.terms.now refl)
+overflow_cast-result c = omega (arith, c.args.asked.now.declared, schemas_few c.args.asked.now.subject.call.now.terms.now)
 
-pub value_of-requires : goal.value_of-requires
+pub value_of-requires-clause-mask_carries : goal.value_of-requires-clause-mask_carries
 unfolding byte_at
-value_of-requires c = record { mask_carries = (asked (goal.at.value_of-requires c).After-head_at-head).0; inside = (asked (goal.at.value_of-requires c).After-head_at-head).2 }
+value_of-requires-clause-mask_carries c = (asked (goal.at.value_of-requires-clause-mask_carries c).After-head_at-head).0
 
-pub value_of-requires-2 : goal.value_of-requires-2
+pub value_of-requires-2-clause-mask_carries : goal.value_of-requires-2-clause-mask_carries
 unfolding byte_at
-value_of-requires-2 c = record { mask_carries = (asked (goal.at.value_of-requires-2 c).After-head_at-head).1; inside = (asked (goal.at.value_of-requires-2 c).After-head_at-head).2 }
+value_of-requires-2-clause-mask_carries c = (asked (goal.at.value_of-requires-2-clause-mask_carries c).After-head_at-head).1
 
 pub returns : goal.returns
 unfolding byte_at row_by
 returns c s t =
-    let mask = sym (mask_is (goal.at.returns c).After-mask_in) in
-    row_is c.args.terms.now (drop starts_from c.args.table.now) c.args.schema c.requires.read.1.starts c.requires.schema_in_bounds
-    c.args.log.now c.args.subject c.requires.stands c.requires.of_subject_kind c.head_at-head.ensures.0
-    c.key_at.ensures (c.value_of.ensures _ mask) (c.value_of-2.ensures _ mask) s t
+    let h = (goal.at.returns c).After-head_at-head in
+    let a = c.args.asked.now in
+    let call = a.subject.call.now in
+    let mask = mask_is h in
+    row_is call.terms.now call.layout.now.starts a.schema call.placed.2 a.declared call.bytes.now a.subject.at (head_is h)
+    (rw (c.record-record.ensures.0, c.record-record.ensures.1, c.record-record.ensures.2) at c.key.ensures)
+    (rw (c.masked-carrier.ensures.at_place, c.record-record.ensures.2) at (c.value_of.ensures (terms_of call.terms.now) mask))
+    (rw (c.masked-carrier.ensures.at_place, c.record-record.ensures.2) at (c.value_of-2.ensures (terms_of call.terms.now) mask)) s t

@@ -1,30 +1,35 @@
--- `rows_at_most` meets its contract: the sum so far and the rows of the schemas from the number on are no fewer than all rows. Assumes nothing.
-use Prim.Native.Nat.{◌<◌, ◌≤◌}
+-- `rows_at_most` meets its contract: no schema has more rows than its bound. Assumes nothing.
 use native.Mathlib.Omega.{arith}
-use mathlib.Core.Path.{refl, ap}
-use lib.ListN.{length, length-append}
-use Rattle.format.specs.Grammar.{schemas_limit}
-use Rattle.format.specs.Fields.{terms_of}
+use lib.ListN.{length}
+use borrow.Author.Rules.{rules}
+use borrow.Author.Tests.{tests}
+use Rattle.std.specs.List.{range_with_len}
+use Rattle.std.proofs.lemmas.Iterator.{YieldsList-from_map}
+use Rattle.std.proofs.lemmas.Iterator.Consumers.{sum_by_from_yields_List}
+use Rattle.std.proofs.lemmas.Iterator.Adapters.{fits_from_length}
+use Rattle.std.proofs.lemmas.List.Sums.{sum_by-le-sum_by}
 use Rattle.terms.proofs.Faults.{schemas_count}
-use Rattle.table.proofs.TableLaws.{schemas-few}
-use Rattle.report.proofs.RowSteps.{schemas-step, schemas-none}
+use Rattle.report.specs.Shown.{rows_from, most_rows}
+use Rattle.report.proofs.Walks.{numbers-road, numbers-few}
+use Rattle.report.proofs.RowSteps.{schemas-count}
+use Rattle.report.proofs.Most.{schema-most}
 use Rattle.report.proofs.rows.rows_at_most.Goals as goal
 
-pub loop-schema-preserved : goal.loop-schema-preserved
-loop-schema-preserved c =
-    let a = c.args in
-    let there : c.loop-schema.schema < length (terms_of a.terms.now).schemas = omega (arith, c.schema_count-schema-end.ensures.0, c.requires.read.1.count, schemas_count a.terms.now) in (
-      λ m.
-          let more = simp length-append at (ap length (schemas-step a.terms.now a.log.now m c.loop-schema.schema there)) in
-          omega (arith, more, c.schema_rows_at_most-most.ensures.0 m, c.loop-schema.invariant.0 m),
-      omega (arith, c.schema_rows_at_most-most.ensures.1, c.loop-schema.invariant.1),
-    )
+pub sum-requires-clause-fits : goal.sum-requires-clause-fits
+sum-requires-clause-fits c =
+    let a = c.args.call.now in
+    fits_from_length _ _ 16 _ (numbers-few _ c.map.ensures.source a.terms.now a.placed.1) c.map.ensures.closure (omega arith) (λ x r q k. search (rules, tests))
 
 pub returns : goal.returns
-unfolding schemas_limit
-returns c =
-    let a = c.args in
-    let past : length (terms_of a.terms.now).schemas ≤ c.loop-schema.schema = omega (arith, c.schema_count-schema-end.ensures.0, c.requires.read.1.count, schemas_count a.terms.now) in (
-      λ m. omega (arith, ap length (schemas-none a.terms.now a.log.now m c.loop-schema.schema past), c.loop-schema.invariant.0 m),
-      omega (arith, c.loop-schema.invariant.1, c.loop-schema.auto.schema-end, c.schema_count-schema-end.ensures.0, c.requires.read.1.count, schemas-few a.terms.now refl),
+returns c m =
+    let a = c.args.call.now in
+    let n = a.layout.now.schemas in
+    let most = most_rows a.terms.now a.bytes.now in
+    let sums = sum_by_from_yields_List most (range_with_len 0 n) c.map.result c.sum.result c.sum.ensures.ran
+    (YieldsList-from_map _ _ (numbers-road n c.map.ensures.source) c.map.ensures.closure (λ x r q k. search (rules, tests))) in
+    omega (
+      arith,
+      sums,
+      schemas-count a.terms.now a.bytes.now m 0 n (omega (arith, a.placed.1, schemas_count a.terms.now)),
+      sum_by-le-sum_by (λ j. length (rows_from a.terms.now a.bytes.now j m 0)) most (range_with_len 0 n) (λ j. schema-most a.terms.now a.bytes.now j m),
     )

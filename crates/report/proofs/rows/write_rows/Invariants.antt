@@ -5,4 +5,5 @@ use Rattle.report.proofs.rows.write_rows.Given as goal
 
 abbrev pub invariant-loop-schema : goal.invariant-loop-schema
 invariant-loop-schema l =
-    Left l.initial.page 0 (schemas_from l.terms l.log l.moment 0) l.page l.to (schemas_from l.terms l.log l.moment l.schema)
+    let rows = schemas_from l.call.terms.now l.call.bytes.now l.moment in
+    Left l.initial.page 0 (rows 0) l.page l.to (rows l.schema)

@@ -1,48 +1,40 @@
 -- `write_schema` meets its contract: the rows of the records so far are put, those of the records that are left are left. Assumes nothing.
-use mathlib.Core.Path.{◌≡◌, ap, ◌∙◌}
-use mathlib.Core.List.{◌∷◌, ◌++◌}
+use mathlib.Core.Path.{◌≡◌}
+use mathlib.Core.List.{◌∷◌}
 use Rattle.meaning.specs.Lists.{All}
 use Rattle.format.specs.Fields.{terms_of}
 use Rattle.records.specs.Holds.{Stands, places_in}
 use Rattle.records.specs.Walk.{places_left}
 use Rattle.records.proofs.Places.{places-stand}
 use Rattle.report.specs.Shown.{record_rows}
-use Rattle.report.proofs.RowSteps.{rows_of_places, places-step, rows_none, rows_all}
-use Rattle.report.proofs.Pages.{left-all, left-room, left-next, left_end}
+use Rattle.report.proofs.RowSteps.{log-shown}
+use Rattle.report.proofs.Pages.{place-next, place-none, left-all, left-room, left-next, left_end}
 use Rattle.report.proofs.rows.write_schema.Goals.{In-Some}
 use Rattle.report.proofs.rows.write_schema.Goals as goal
 
 -- a record stands at the place of a turn, and at those that are left
-stand : (c : In-Some) → All (Stands (terms_of c.args.terms.now) c.args.log.now) (c.in-Some.subject ∷ places_left c.next.new.self)
-stand c = rw c.in-Some.ensures.steps at c.loop-subject.invariant.0
+stand : (c : In-Some) → let call = c.args.call.now in All (Stands (terms_of call.terms.now) call.bytes.now) (c.in-Some.at ∷ places_left c.next.new.self)
+stand c = rw c.in-Some.ensures.steps at c.loop-at.invariant.0
 
--- its rows come first
-next : (c : In-Some) → let a = c.args in
-    rows_of_places a.terms.now a.log.now a.schema a.moment (places_left c.loop-subject.subject-iterator)
-    ≡ record_rows a.terms.now a.log.now a.schema a.moment c.in-Some.subject ++ rows_of_places a.terms.now a.log.now a.schema a.moment (places_left c.next.new.self)
-next c =
-    let a = c.args in
-    ap (rows_of_places a.terms.now a.log.now a.schema a.moment) c.in-Some.ensures.steps ∙ places-step a.terms.now a.log.now a.schema a.moment c.in-Some.subject (places_left c.next.new.self)
+pub loop-at-init : goal.loop-at-init
+loop-at-init c =
+    let call = c.args.call.now in
+    let all : places_left c.into_iter-at-iterator.result ≡ places_in (terms_of call.terms.now) call.bytes.now =
+    rw c.into_iter-at-iterator.ensures.into_iter_gives (rw (c.log.ensures.0, c.log.ensures.1) at c.new-at-items.ensures) in
+    rw all (places-stand (terms_of call.terms.now) call.bytes.now, left-all _ _ (log-shown call.terms.now call.bytes.now c.args.schema c.args.moment) c.requires.rows_fit)
 
-pub loop-subject-init : goal.loop-subject-init
-loop-subject-init c =
-    let a = c.args in
-    let t = terms_of a.terms.now in
-    let all : places_left c.into_iter-subject-iterator.result ≡ places_in t a.log.now = rw c.into_iter-subject-iterator.ensures.into_iter_gives c.new-subject-items.ensures in
-    rw (all, rows_all a.terms.now a.log.now a.schema a.moment) (places-stand t a.log.now, left-all _ _ _ c.requires.rows_fit)
+pub of-requires-clause-stands : goal.of-requires-clause-stands
+of-requires-clause-stands c = (stand c).0
 
-pub write_record-to-requires-clause-stands : goal.write_record-to-requires-clause-stands
-write_record-to-requires-clause-stands c = (stand (goal.at.write_record-to-requires-clause-stands c).In-Some).0
+pub write_record-to-requires : goal.write_record-to-requires
+write_record-to-requires c =
+    let rows = record_rows c.args.call.now.terms.now c.args.call.now.bytes.now c.args.schema c.args.moment in
+    rw (c.of.ensures.0, c.of.ensures.1, c.of.ensures.2, c.of.ensures.3) (left-room c.loop-at.invariant.1 _ _ (place-next rows c.in-Some.ensures.steps))
 
-pub write_record-to-requires-clause-rows_fit : goal.write_record-to-requires-clause-rows_fit
-write_record-to-requires-clause-rows_fit c = left-room c.loop-subject.invariant.1 _ _ (next (goal.at.write_record-to-requires-clause-rows_fit c).In-Some)
-
-pub loop-subject-preserved : goal.loop-subject-preserved
-loop-subject-preserved c =
-    let i = (goal.at.loop-subject-preserved c).In-Some in
-    ((stand i).1, left-next c.loop-subject.invariant.1 _ _ (next i) c.write_record-to.ensures.0 c.write_record-to.ensures.1)
+pub loop-at-preserved : goal.loop-at-preserved
+loop-at-preserved c =
+    let rows = record_rows c.args.call.now.terms.now c.args.call.now.bytes.now c.args.schema c.args.moment in
+    ((stand (goal.at.loop-at-preserved c).In-Some).1, left-next c.loop-at.invariant.1 _ _ (place-next rows c.in-Some.ensures.steps) (rw (c.of.ensures.0, c.of.ensures.1, c.of.ensures.2, c.of.ensures.3) at c.write_record-to.ensures))
 
 pub returns : goal.returns
-returns c =
-    let a = c.args in
-    left_end c.loop-subject.invariant.1 (ap (rows_of_places a.terms.now a.log.now a.schema a.moment) c.in-None.ensures.steps.0 ∙ rows_none a.terms.now a.log.now a.schema a.moment)
+returns c = left_end c.loop-at.invariant.1 (place-none (record_rows c.args.call.now.terms.now c.args.call.now.bytes.now c.args.schema c.args.moment) c.in-None.ensures.steps.0)

@@ -1,0 +1,20 @@
+-- The model's meaning of what is asked for a clause. Assumes nothing: these are definitions.
+use Rattle.std.specs.Prelude.{ℕ, ◌+◌, ◌*◌, ◌≡◌}
+use Rattle.meaning.specs.Terms.{Terms}
+use Rattle.meaning.specs.Log.{Record, Log}
+use Rattle.meaning.specs.Meaning.{StageTimes}
+use Rattle.accepted.specs.declared.Subject.{Subject}
+use Rattle.evaluate.specs.Seen.{under}
+use Rattle.evaluate.specs.declared.clause.Clause.{Clause}
+use Rattle.evaluate.specs.declared.clause.Clauses.{Clauses}
+
+-- a rule of the meaning, for a clause and its subject
+abbrev pub asked : {A : Type 0} → (StageTimes → Terms → Log → Record → A) → Clause → A
+asked rule c = under rule c.subject.call.now.terms.now c.subject.call.now.bytes.now c.rank c.subject.at
+
+-- the three clauses of a schema, in rank (Citation)
+abbrev pub ClausesOf : Subject → ℕ → Clauses → Type 0
+ClausesOf s j c =
+    ((c.create.subject ≡ s) × (c.create.rank ≡ 3 * j))
+    × ((c.detach.subject ≡ s) × (c.detach.rank ≡ 3 * j + 1))
+    × ((c.consequent.subject ≡ s) × (c.consequent.rank ≡ 3 * j + 2))
