@@ -47,7 +47,7 @@ GROUPS = [
     ("create", "detach", "consequent"),
     ("lower", "upper"),
 ]
-FACTS = ["Ready", "Kinds", "Read", "Placed", "Stands", "Indexed", "LaidOut", "Posed", "table_length", "kinds ≡ length"]
+FACTS = ["Ready", "Kinds", "KindsIn", "Read", "Placed", "Stands", "Indexed", "LaidOut", "Posed", "table_length", "kinds ≡ length"]
 SIGNATURE = re.compile(r"\bfn (\w+)(?:<[^>]*>)?\(([^{]*?)\)\s*(?:->|requires|ensures|where|\{)", re.S)
 
 
