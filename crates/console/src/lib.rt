@@ -1,7 +1,7 @@
 // What the programs share: the reading of their input, and the rows of a report as values.
 #![tactic(auto)]
 
-ghost use Rattle.std.specs.Prelude.{◌≡◌, ◌≢◌, ℕ, ◌⊎◌, List, ◌++◌, IfOk, IfSome, IsFalse, IsNone, length, take, vec_len};
+ghost use Rattle.std.specs.Prelude.{◌≡◌, ◌≢◌, ℕ, ◌⊎◌, List, ◌++◌, IfOk, IfSome, IsFalse, IsNone, IsOk, length, take, vec_len};
 ghost use Rattle.std.specs.Io.{StartsWith};
 ghost use Rattle.std.specs.Io.KnownBytes.{Consumes};
 ghost use Rattle.meaning.specs.declared.Row.{Row};
@@ -91,7 +91,9 @@ pub fn at_end<R: Read>(input: &mut R) -> bool
 }
 
 // How a program ends: where its input is not what it should be, with a line that says so.
-pub fn end(rt: &impl Print, done: Result<(), Failure>, bad: &str) -> io::Result<()> {
+pub fn end(rt: &impl Print, done: Result<(), Failure>, bad: &str) -> io::Result<()>
+    ensures { IsOk done → IsOk result }
+{
     match done {
         Ok(()) => Ok(()),
         Err(Failure::BadInput) => println!(rt; "{bad}"),
