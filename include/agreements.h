@@ -15,8 +15,8 @@
  *   pointer, also under valgrind, and behaves like an empty array. Null with another length is not allowed.
  * - Nothing is kept from one call to the next: the archive has no writable data, and needs memcpy and memset only. So several threads may
  *   call at once, each with its own memory to be written. Terms, and a log that is only read, may be lent to several at once.
- * - No proof bounds the stack. By trials, a call takes 50 KB of it, most of that for one table (check terms 6 KB), and a report under the
- *   longest chain of citations would take 400 KB; give each calling thread 1 MB.
+ * - No proof bounds the stack. By trials, a call takes 50 KB of it, most of that for the index of the log (check terms 4 KB), and a
+ *   report under the longest chain of citations would take 300 KB; give each calling thread 1 MB.
  *
  * Time
  * Under terms that cite no stage a call takes about twice as long for a log twice as long, if each subject matches a few records
@@ -25,7 +25,7 @@
  * counted before they are written.
  *
  * Records are looked up by a hash of their values, which is no secret. Whoever picks values with equal hashes makes each lookup walk through
- * most values of the log: on full logs made so under the sample's terms a report and a check took 25 to 110 times as long.
+ * most values of the log: on full logs made so under the sample's terms a report and a check took 40 to 140 times as long.
  *
  * A stage that a clause cites is worked out anew for each citation and each record that matches, and so is each stage that this one cites
  * in turn. So the cost multiplies along a chain of citations, and a report under accepted terms can take very long. For a log of one record
@@ -69,9 +69,9 @@ enum agreements_refusal {
     AGREEMENTS_TERMS_TOO_LONG = 1,     /* they have more than 16,384 bytes */
     AGREEMENTS_BROKEN_GRAMMAR = 2,     /* they are not 1 to 32 kinds, then 1 to 16 schemas of a head and three expressions of up to 31 items
                                           (03 to 08), all of them whole, and nothing more */
-    AGREEMENTS_FIELD_OUT_OF_RANGE = 3, /* a kind's number is not its place, a mask is 0, a key or a party is not in its kind's mask, a norm
-                                          type, kind, form or sign does not exist, a lower bound, or the upper one of a count, is open, an
-                                          offset is above 2,147,483,647, or what has to be 0 is not */
+    AGREEMENTS_FIELD_OUT_OF_RANGE = 3, /* a kind's number is not its place, a mask is 0, a key is not in its kind's mask or a party in that of
+                                          the subject kind, a norm type, kind, form or sign does not exist, a lower bound, or the upper one of
+                                          a count, is open, an offset is above 2,147,483,647, or what has to be 0 is not */
     AGREEMENTS_CITATION_TOO_HIGH = 4,  /* a clause cites a stage of its own rank or of a higher one (docs/FORMAT.md, Citations) */
     AGREEMENTS_NOTHING_SHARED = 5,     /* a kind that a clause names, by an event or a count (for a stage: its schema's subject kind), has no
                                           attribute in common with the subject kind */

@@ -56,8 +56,8 @@ end_of_time =
 abbrev citing : List ℕ → List ℕ → Outcome
 citing clause log = reported (norm 2 always E10 F20 ++ schema 2 0 0 0 always clause nothing) log
 
--- reading and meaning joined: each item, each sign of a bound, each form and each type of norm, from bytes to rows in bytes. What they mean is told
--- apart case by case in the list over the meaning
+-- reading and meaning joined: each item but 08, which `count_cases` has, each sign of a bound, each form and each type of norm, from bytes to rows in
+-- bytes. What they mean is told apart case by case in the list over the meaning
 abbrev joined_cases : List (Case Outcome)
 joined_cases =
     -- items 01, 02, 03 and 07; types 1 to 4; form 0; sign 0: always; E before 10; F before 20

@@ -1,11 +1,11 @@
 -- The earliest happening of an event in a window, record by record of the subject's mark.
 --     scan-none                         a kind that is not declared has no records
---     Scanned, scan-start, scan-take, scan-skip, scan-end
+--     Scanned, scan-start, scan-take, scan-end
 -- Assumes nothing.
 use Prim.Native.Nat.{ℕ, ◌≤◌}
 use mathlib.Core.Path.{◌≡◌, ◌∙◌}
-use mathlib.Core.Bool.{Bool, true, false}
-use mathlib.Core.List.{List, []}
+use mathlib.Core.Bool.{false}
+use mathlib.Core.List.{List, [], ◌∷◌}
 use lib.ListN.{length}
 use Rattle.meaning.specs.declared.Time.{Time}
 use Rattle.meaning.specs.declared.Time.TheVariants.{Never}
@@ -19,7 +19,6 @@ use Rattle.meaning.proofs.EdgeLaws.{never-within}
 use Rattle.meaning.proofs.GatherLaws.{Gathers, earliest-gathers}
 use Rattle.format.specs.Fields.{terms_of}
 use Rattle.index.specs.declared.Mark.{Mark}
-use Rattle.index.specs.Chains.{push_if}
 use Rattle.index.specs.Asked.{found}
 use Rattle.marks.specs.Marks.{Marks}
 use Rattle.marks.proofs.Scans as scans
@@ -53,16 +52,12 @@ module _ (terms log : List ℕ) (k subject : ℕ) (l u : Edge) (event : Event) w
   pub scan-start : {kind : ℕ} {q : Mark} → kind ≡ kind_of (terms_of terms) event → Marks terms log subject kind q → Scanned Never (found (terms_of terms) log q)
   scan-start {kind} is = scans.scan-start terms log gathers subject kind (by-other is)
 
-  module _ (first : Time) (b : Bool) (owner : ℕ) (rest : List ℕ) {left : List ℕ} (next : left ≡ push_if b owner rest) (sofar : Scanned first left) where
-    -- a record of the mark
-    pub scan-take : {time inside later : Time} → b ≡ true → time ≡ happens terms log k subject event (record_in terms log owner)
-        → inside ≡ from_edge l (before_edge u time) → later ≡ earlier_of first inside → Scanned later rest
-    unfolding record_in
-    scan-take y t e n = scans.scan-take terms log gathers first b owner rest next sofar y (n ∙ rw (e, t))
-
-    -- a word of another record
-    pub scan-skip : b ≡ false → Scanned first rest
-    scan-skip = scans.scan-skip terms log gathers first b owner rest next sofar
+  -- a record of the mark
+  pub scan-take : (first : Time) (owner : ℕ) (rest : List ℕ) {left : List ℕ} → left ≡ owner ∷ rest → Scanned first left
+      → {time inside later : Time} → time ≡ happens terms log k subject event (record_in terms log owner)
+      → inside ≡ from_edge l (before_edge u time) → later ≡ earlier_of first inside → Scanned later rest
+  unfolding record_in
+  scan-take first owner rest next sofar t e n = scans.scan-take terms log gathers first owner rest next sofar (n ∙ rw (e, t))
 
   -- no record is left
   pub scan-end : {first : Time} {left : List ℕ} → left ≡ [] → Scanned first left → first ≡ under first_within terms log k subject l u event

@@ -1,11 +1,12 @@
 -- What a clause weighs in the cycle, by the times that are asked of it.
---     weight                                           the rank first; a clause of which nothing is asked makes no call
---     weighs-occurrence, weighs-failure, weighs-both   what a clause weighs of which a time is asked
---     create-below, detach-below, consequent-below     what a stage asks of its clauses weighs less than the stage
+--     weight                                          the rank first; a clause of which nothing is asked makes no call
+--     weighs                                          what a clause weighs of which a time is asked
+--     create-below, detach-below, consequent-below    what a stage asks of its clauses weighs less than the stage
 -- Assumes nothing.
 use Prim.Native.Nat.{ℕ, ◌+◌, ◌*◌, ◌≤◌, ◌<◌}
 use native.Mathlib.Omega.{arith}
 use mathlib.Core.Path.{◌≡◌}
+use mathlib.Core.Logic.{◌⊎◌, inl, inr}
 use Rattle.meaning.specs.declared.Stage.{Stage}
 use Rattle.meaning.specs.declared.Stage.TheVariants.{Created, Detached, Expired, Discharged, Violated}
 use Rattle.meaning.specs.declared.NormType.{NormType}
@@ -23,20 +24,11 @@ weight Failure k = k * 512 + 300
 weight Both k = k * 512 + 300
 
 -- one of which a time is asked
-pub weighs-occurrence : (n : Needed) (k : ℕ) → n ≡ Occurrence → weight n k ≡ k * 512 + 300
+pub weighs : (n : Needed) (k : ℕ) → (n ≡ Occurrence) ⊎ ((n ≡ Failure) ⊎ (n ≡ Both)) → weight n k ≡ k * 512 + 300
 unfolding weight
-weighs-occurrence n k e = rw e
-
-pub weighs-failure : (n : Needed) (k : ℕ) → n ≡ Failure → weight n k ≡ k * 512 + 300
-unfolding weight
-weighs-failure n k e = rw e
-
-pub weighs-both : (n : Needed) (k : ℕ) → n ≡ Both → weight n k ≡ k * 512 + 300
-unfolding weight
-weighs-both n k e = rw e
-
--- what the search for the proof of `clause_times` cites
-pub ruleset weights = (weighs-occurrence, weighs-failure, weighs-both)
+weighs n k (inl e) = rw e
+weighs n k (inr (inl e)) = rw e
+weighs n k (inr (inr e)) = rw e
 
 -- the most that a clause of rank k weighs
 most : (p : Needed) (k : ℕ) → weight p k ≤ k * 512 + 300

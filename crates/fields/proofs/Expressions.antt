@@ -1,8 +1,9 @@
 -- What stands at a place of terms, by the byte there and, of a connective, by what the code reads after it.
---     no_items, no_kind, no_body      nothing is read
---     first-spot                      where a connective's first operand stands
---     first-unread, second-unread     nothing is read where an operand of a connective is not
---     joined_at                       a connective of two operands that are
+--     no_items, no_kind, head_unread, leaf-unread     nothing is read
+--     leaf-read                                       a leaf or a count
+--     first-spot                                      where a connective's first operand stands
+--     first-unread, second-unread                     nothing is read where an operand of a connective is not
+--     joined_at                                       a connective of two operands that are
 -- Assumes nothing.
 use Prim.Native.Nat.{ℕ, suc, ◌+◌, ◌-◌, ◌≤◌, ◌<◌}
 use native.Mathlib.Omega.{arith}
@@ -19,19 +20,15 @@ use Rattle.format.specs.Fields.{neither, leaf_from, expr_at}
 use Rattle.format.proofs.ReaderLaws.{none-some, found-eq}
 use Rattle.format.proofs.GrammarLaws.{E, size-positive}
 use Rattle.format.proofs.PlaceLaws.{byte_inside, item-short}
-use Rattle.format.proofs.ExprLaws.{leaf-item, count-item, expr-leaf, Joining, joins, Parts, LeafItem, read-cut, join_is, expr-some, expr-none, expr-join}
+use Rattle.format.proofs.ExprLaws.{expr-leaf, Joining, joins, Parts, read-cut, join_is, expr-some, expr-none, expr-join}
 use Rattle.std.specs.Prelude as std
 use Rattle.grammar.specs.declared.Item.{Item}
 use Rattle.grammar.specs.declared.Item.TheVariants.{Kind, Schema, Leaf, And, Or, Except, Always, Count}
 use Rattle.grammar.specs.declared.Spot.{Spot}
 use Rattle.grammar.specs.Items.{code_of, body_of}
 use Rattle.grammar.specs.Found.{after_item, FoundExpr}
-use Rattle.grammar.proofs.Steps.{Connects, expr-no-items, expr-no-kind}
+use Rattle.grammar.proofs.Steps.{Connects, first-at, as-leaf, Reads, expr-no-items, expr-no-kind}
 use Rattle.fields.specs.Decoded.{LeafAt, leaf_item, JoinedAt}
-
--- what the reader of expressions promises, whatever depth the model's is allowed
-abbrev pub Reads : ℕ → List ℕ → ℕ → std.Option Spot → Type 0
-Reads items s at r = (n : ℕ) → items ≤ n → FoundExpr n items s at r
 
 -- the kind byte of an item is not what stands past the end
 some-code : (k : Item) → 1 ≤ code_of k
@@ -44,23 +41,15 @@ some-code Except = omega arith
 some-code Always = omega arith
 some-code Count = omega arith
 
--- a connective's body is empty
-pub connects-body : {k : Item} → Connects k → body_of k ≡ 0
-connects-body (inl e) = ap body_of e
-connects-body (inr (inl e)) = ap body_of e
-connects-body (inr (inr e)) = ap body_of e
-
--- the last of the three
+-- the last of the three that join two
 pub is-except : {k : Item} → Connects k → (k ≡ And → ⊥) → (k ≡ Or → ⊥) → k ≡ Except
 is-except (inl e) h g = absurd (h e)
 is-except (inr (inl e)) h g = absurd (g e)
 is-except (inr (inr e)) h g = e
 
--- its first operand stands right after its byte
+-- the spot of a connective's first operand
 pub first-spot : {k : Item} (spot : Spot) → Connects k → after_item spot k ≡ record { at = spot.at + 1; items = spot.items - 1 }
-first-spot {k} spot is =
-    let place : spot.at + 1 + body_of k ≡ spot.at + 1 = omega (arith, connects-body is) in
-    ap (λ (n : ℕ). record { at = n; items = spot.items - 1 }) place
+first-spot spot is = ap (λ (n : ℕ). record { at = n; items = spot.items - 1 }) (first-at is spot.at)
 
 module _ (s : List ℕ) (at items : ℕ) where
   -- no items are left
@@ -71,26 +60,17 @@ module _ (s : List ℕ) (at items : ℕ) where
   pub no_kind : (3 ≤ byte_at s at → byte_at s at ≤ 8 → ⊥) → expr_at s at items ≡ leaf neither
   no_kind out = expr-none items s at items (omega arith) (expr-no-kind items s at out items (omega arith))
 
-  -- a leaf that is cut off
-  pub no_body : {kind n : ℕ} → LeafItem kind n → byte_at s at ≡ kind → length s < at + suc n → expr_at s at items ≡ leaf neither
-  no_body {kind} {n} is e l = expr-none items s at items (omega arith) (read-cut is items items s at e (item-short kind n s at (omega arith)))
-
   -- an item's kind byte stands inside the bytes
   pub inside : (k : Item) → code_of k ≡ byte_at s at → at < length s
   inside k b = byte_inside s at (omega (arith, b, some-code k))
 
   -- a leaf or a count that is cut off
   pub leaf-unread : {k : Item} → (k ≡ Leaf) ⊎ (k ≡ Count) → code_of k ≡ byte_at s at → length s < at + suc (body_of k) → expr_at s at items ≡ leaf neither
-  leaf-unread (inl e) b l = no_body leaf-item (sym (rw e at b)) (rw e at l)
-  leaf-unread (inr e) b l = no_body count-item (sym (rw e at b)) (rw e at l)
+  leaf-unread {k} is b l = expr-none items s at items (omega arith) (read-cut (as-leaf is) items items s at (sym b) (item-short (code_of k) (body_of k) s at (omega arith)))
 
   -- one that is whole
   pub leaf-read : {k : Item} → LeafAt s at k → 0 < items → expr_at s at items ≡ leaf (leaf_from (leaf_item s at k))
-  leaf-read {k} h p = go h.0
-    where
-      go : (k ≡ Leaf) ⊎ (k ≡ Count) → expr_at s at items ≡ leaf (leaf_from (leaf_item s at k))
-      go (inl e) = rw e (expr-leaf leaf-item s at items p (sym (rw e at h.1)) (rw e at h.2))
-      go (inr e) = rw e (expr-leaf count-item s at items p (sym (rw e at h.1)) (rw e at h.2))
+  leaf-read h p = expr-leaf (as-leaf h.0) s at items p (sym h.1) h.2
 
   -- no item of an expression
   pub head_unread : {k : Item} → (k ≡ Kind) ⊎ (k ≡ Schema) → code_of k ≡ byte_at s at → expr_at s at items ≡ leaf neither

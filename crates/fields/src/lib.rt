@@ -134,7 +134,7 @@ fn count_at(terms: &[u8], at: usize) -> Option<Atom>
 
 // A leaf that neither occurs nor fails: what stands for one that cannot be decoded.
 #[tactic(auto, unfolding(format::specs::Fields::neither))]
-fn no_leaf() -> Atom
+fn neither() -> Atom
     ensures { result ≡ neither }
 {
     Atom::Happens(Leaf {
@@ -151,8 +151,8 @@ pub fn leaf_at(terms: &[u8], at: usize, item: Item) -> Atom
     ensures { result ≡ leaf_from (leaf_item terms.now at item) }
 {
     match item {
-        Item::Count => count_at(terms, at).unwrap_or(no_leaf()),
-        _ => happening_at(terms, at).unwrap_or(no_leaf()),
+        Item::Count => count_at(terms, at).unwrap_or(neither()),
+        _ => happening_at(terms, at).unwrap_or(neither()),
     }
 }
 

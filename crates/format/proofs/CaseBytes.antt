@@ -30,7 +30,7 @@ except a b = 0x06 ∷ a ++ b
 abbrev pub always : List ℕ
 always = 0x07 ∷ []
 
--- item 08: a threshold, a kind, a lower and an upper bound
+-- item 08: a kind, a threshold, a lower and an upper bound
 abbrev pub more_than : ℕ → ℕ → List ℕ → List ℕ → List ℕ
 more_than threshold kind lower upper = 0x08 ∷ kind ∷ word threshold ++ lower ++ upper
 

@@ -2,6 +2,7 @@
 pub mod NumberLaws
 pub mod ReaderLaws
 pub mod GrammarLaws
+pub mod LengthLaws
 pub mod FieldLaws
 pub mod PlaceLaws
 pub mod ExprLaws

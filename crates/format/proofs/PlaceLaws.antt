@@ -5,7 +5,7 @@
 --     number_two, number_four                                     the two sums that code computes
 --     left_over, byte_inside                                      whether a place is inside the bytes
 --     drop-take, drop_here, item-…                                the front of the bytes from a place on, and the item that stands there or does not
---     bound-here, leaf_by, count_by, …-here, …-wrong-here            a leaf's fields, and refusal 3 of them, by the bytes of the whole
+--     bound-here, bound-wrong-here                                a bound, and refusal 3 of it, by the bytes of the whole
 --     event-bound-wrong, no-bound-wrong                           refusal 3 at a bound with an event, and at one of no sign
 -- Assumes nothing.
 use Prim.Native.Nat.{ℕ, zero, suc, ◌+◌, ◌-◌, ◌*◌, ◌≤◌, ◌<◌}
@@ -15,19 +15,15 @@ use native.Mathlib.Omega.{arith}
 use mathlib.Core.Path.{◌≡◌, refl, ap, sym, ◌∙◌}
 use mathlib.Core.Bool.{Bool, true, false, cond, not, ◌||◌, and-false}
 use mathlib.Core.List.{List, [], ◌∷◌}
-use mathlib.Core.Option.{Option, none, some, bind}
-use lib.Dec.{leb, ltb, eqb}
+use mathlib.Core.Option.{none, some}
+use lib.Dec.{ltb, eqb}
 use lib.ListN.{length, take, drop, length-drop, drop_of_length-le, get_or-eq_default}
 use lib.Seq.{take-nil, drop-cons, get_or-take, get_or-drop, take-take, drop-drop}
 use borrow.Author.Tests.{ltb-true, ltb-false, le-leb, lt-leb, eq-eqb, ne_eqb}
-use Rattle.meaning.specs.declared.Event.{Event}
-use Rattle.meaning.specs.declared.Bound.{Bound}
-use Rattle.meaning.specs.declared.Atom.{Atom}
-use Rattle.meaning.specs.declared.Atom.TheVariants.{Happens, Counts}
 use Rattle.meaning.specs.Lists.{is_empty}
 use Rattle.meaning.specs.Terms.{Terms}
 use Rattle.format.specs.Bytes.{number_of, byte_at, number_at, item}
-use Rattle.format.specs.Fields.{event_of, bound_of, happening_of, count_of, leaf_of, neither, leaf_from, offset_limit, event_wrong, bound_wrong, count_wrong, leaf_wrong}
+use Rattle.format.specs.Fields.{bound_of, offset_limit, event_wrong, bound_wrong}
 
 -- a byte after a place
 pub byte-drop : (s : List ℕ) (at i : ℕ) → byte_at (drop at s) i ≡ byte_at s (at + i)
@@ -164,84 +160,6 @@ bound-wrong-here terms s at i n h =
 -- the first byte at a place
 pub byte-first : (s : List ℕ) (at n : ℕ) → 0 < n → byte_at (take n (drop at s)) 0 ≡ byte_at s at
 byte-first s at n h = byte-within s at 0 n h ∙ ap (byte_at s) (add-zero at)
-
--- an item 03 by what is read of it: its event, its lower and its upper bound
-abbrev pub leaf_by : Option Event → Option Bound → Option Bound → Atom
-leaf_by none l u = neither
-leaf_by (some e) none u = neither
-leaf_by (some e) (some l) none = neither
-leaf_by (some e) (some l) (some u) = Happens (record { event = e; lower = l; upper = u })
-
--- an item 08: its kind, its threshold, its lower and its upper bound
-abbrev pub count_by : ℕ → ℕ → Option Bound → Option Bound → Atom
-count_by kind threshold none u = neither
-count_by kind threshold (some l) none = neither
-count_by kind threshold (some l) (some u) = Counts (record { kind = kind; threshold = threshold; lower = l; upper = u })
-
--- what is read, or what neither occurs nor fails
-abbrev or_neither : Option Atom → Atom
-or_neither x = elim x [ none ↦ neither | some y ↦ y ]
-
--- an item 03 is read in that order
-leaf-by : (item : List ℕ) → byte_at item 0 ≡ 3 → leaf_from item ≡ leaf_by (event_of (byte_at item 1) (byte_at item 2)) (bound_of item 3) (bound_of item 10)
-unfolding leaf_from leaf_of happening_of bind
-leaf-by item b = rw (leaf_from, b) (go (event_of (byte_at item 1) (byte_at item 2)) (bound_of item 3) (bound_of item 10))
-  where
-    go : (e : Option Event) (l u : Option Bound)
-        → or_neither (bind e λ e. bind l λ l. bind u λ u. some (Happens (record { event = e; lower = l; upper = u }))) ≡ leaf_by e l u
-    go none l u = refl
-    go (some e) none u = refl
-    go (some e) (some l) none = refl
-    go (some e) (some l) (some u) = refl
-
--- so is an item 08
-count_by_lem : (item : List ℕ) → byte_at item 0 ≡ 8 → leaf_from item ≡ count_by (byte_at item 1) (number_at 4 item 2) (bound_of item 6) (bound_of item 13)
-unfolding leaf_from leaf_of count_of bind
-count_by_lem item b = rw (leaf_from, b) (go (bound_of item 6) (bound_of item 13))
-  where
-    go : (l u : Option Bound)
-        → or_neither (bind l λ l. bind u λ u. some (Counts (record { kind = byte_at item 1; threshold = number_at 4 item 2; lower = l; upper = u }))) ≡ count_by (byte_at item 1) (number_at 4 item 2) l u
-    go none u = refl
-    go (some l) none = refl
-    go (some l) (some u) = refl
-
--- the item 03 at a place
-pub leaf-here : (s : List ℕ) (at : ℕ) → byte_at s at ≡ 3
-    → leaf_from (take 17 (drop at s)) ≡ leaf_by (event_of (byte_at s (at + 1)) (byte_at s (at + 2))) (bound_of s (at + 3)) (bound_of s (at + 10))
-leaf-here s at b =
-    rw (
-      leaf-by (take 17 (drop at s)) (byte-first s at 17 (omega arith) ∙ b),
-      byte-within s at 1 17 (omega arith),
-      byte-within s at 2 17 (omega arith),
-      bound-here s at 3 17 (omega arith),
-      bound-here s at 10 17 (omega arith),
-    )
-
--- the item 08 at a place
-pub count-here : (s : List ℕ) (at : ℕ) → byte_at s at ≡ 8
-    → leaf_from (take 20 (drop at s)) ≡ count_by (byte_at s (at + 1)) (number_at 4 s (at + 2)) (bound_of s (at + 6)) (bound_of s (at + 13))
-count-here s at b =
-    rw (
-      count_by_lem (take 20 (drop at s)) (byte-first s at 20 (omega arith) ∙ b),
-      byte-within s at 1 20 (omega arith),
-      number-within 4 s at 2 20 (omega arith),
-      bound-here s at 6 20 (omega arith),
-      bound-here s at 13 20 (omega arith),
-    )
-
--- refusal 3 of an item 08
-pub count-wrong-here : (terms : Terms) (s : List ℕ) (at : ℕ) → byte_at s at ≡ 8 → leaf_wrong terms (take 20 (drop at s))
-    ≡ (leb (length terms.kinds) (byte_at s (at + 1)) || eqb (byte_at s (at + 6)) 3 || bound_wrong terms s (at + 6) || eqb (byte_at s (at + 13)) 3 || bound_wrong terms s (at + 13))
-unfolding leaf_wrong count_wrong
-count-wrong-here terms s at b =
-    simp (
-      byte-first s at 20 (omega arith) ∙ b,
-      byte-within s at 1 20 (omega arith),
-      byte-within s at 6 20 (omega arith),
-      byte-within s at 13 20 (omega arith),
-      bound-wrong-here terms s at 6 20 (omega arith),
-      bound-wrong-here terms s at 13 20 (omega arith),
-    )
 
 -- what signs 1 and 2 share, in a choice by signs
 shared : (sign : ℕ) (a x b : Bool) → (sign ≡ 0 → ⊥) → sign < 3 → cond (eqb sign 0) a (cond (eqb sign 1) x (cond (eqb sign 2) x b)) ≡ x

@@ -1,4 +1,5 @@
 -- The readers of the model at the places and numbers that the code has.
+--     Ends, Connects, as-leaf, first-at     items by what they are in an expression: their bytes and bodies
 --     expr-…                                an expression: one lemma for each answer of the code
 --     item-ends, schema-found               where an item ends, and a schema with the places of its clauses
 --     starts-step                           the starts of one schema more
@@ -76,6 +77,15 @@ connects-body (inl e) = ap body_of e
 connects-body (inr (inl e)) = ap body_of e
 connects-body (inr (inr e)) = ap body_of e
 
+-- so their first operand stands right after their byte
+pub first-at : {k : Item} → Connects k → (at : ℕ) → at + 1 + body_of k ≡ at + 1
+first-at is at = omega (arith, connects-body is)
+
+-- both kinds of leaf, by their byte and the length of their body
+pub as-leaf : {k : Item} → (k ≡ Leaf) ⊎ (k ≡ Count) → LeafItem (code_of k) (body_of k)
+as-leaf (inl e) = rw e leaf-item
+as-leaf (inr e) = rw e count-item
+
 -- and of those that end one
 pub ends-code : {k : Item} {b : ℕ} → Ends k → code_of k ≡ b → 1 ≤ b
 ends-code {b = b} (inl e) h = let f : 3 ≡ b = rw e at h in omega arith
@@ -83,7 +93,7 @@ ends-code {b = b} (inr (inl e)) h = let f : 7 ≡ b = rw e at h in omega arith
 ends-code {b = b} (inr (inr e)) h = let f : 8 ≡ b = rw e at h in omega arith
 
 -- what the reader of expressions promises, whatever depth the model's is allowed
-abbrev Reads : ℕ → List ℕ → ℕ → Option Spot → Type 0
+abbrev pub Reads : ℕ → List ℕ → ℕ → Option Spot → Type 0
 Reads items s at r = (n : ℕ) → items ≤ n → FoundExpr n items s at r
 
 module _ (items : ℕ) (s : List ℕ) (at : ℕ) where
@@ -153,19 +163,15 @@ module _ (items : ℕ) (s : List ℕ) (at : ℕ) where
     high : byte_at s at ≤ 6
     high = (connects-code is b).1
 
-    -- its first operand stands right after its byte
-    first-at : at + 1 + body_of k ≡ at + 1
-    first-at = omega (arith, connects-body is)
-
     -- a connective without its first operand
     pub expr-no-first : Reads (items - 1) s (at + 1 + body_of k) None → Reads items s at None
     unfolding read_both bind
-    expr-no-first f = one-taken None p (λ n h. rw (join-reads n (items - 1) s at low high, rw first-at at f n (omega arith)))
+    expr-no-first f = one-taken None p (λ n h. rw (join-reads n (items - 1) s at low high, rw (first-at is at) at f n (omega arith)))
 
     -- a connective: what its second operand gives
     pub expr-both : (r : Option Spot) {middle : Spot} → Reads (items - 1) s (at + 1 + body_of k) (Some middle) → Reads middle.items s middle.at r → Reads items s at r
     expr-both r {middle} f g = one-taken r p (λ n h.
-        let a = rw first-at at f n (omega arith) in
+        let a = rw (first-at is at) at f n (omega arith) in
         joined n (items - 1) s at middle.at middle.items low high a r (g n (omega arith)))
 
 -- a schema, with the places of its clauses

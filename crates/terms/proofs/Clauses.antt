@@ -19,7 +19,7 @@ use Rattle.format.specs.Bytes.{byte_at}
 use Rattle.format.specs.Grammar.{size, read_expr}
 use Rattle.meaning.proofs.ListLaws.{any_append}
 use Rattle.format.proofs.GrammarLaws.{E, Connective, size-positive, expr-read}
-use Rattle.format.proofs.ExprLaws.{Joins, joins, Parts, LeafItem, leaf-item, count-item, read-inside, read_none, leaf-is, always-is, join_is}
+use Rattle.format.proofs.ExprLaws.{Joins, joins, Parts, read-inside, read_none, leaf-is, always-is, join_is}
 use Rattle.grammar.specs.Found.{StandsExpr}
 use Rattle.std.specs.Prelude.{Option, Some, None}
 use mathlib.Core.Logic.{◌⊎◌, inl, inr}
@@ -27,8 +27,7 @@ use Rattle.grammar.specs.declared.Item.{Item}
 use Rattle.grammar.specs.declared.Item.TheVariants.{Kind, Schema, Leaf, Always, Count}
 use Rattle.grammar.specs.declared.Spot.{Spot}
 use Rattle.grammar.specs.Items.{code_of, body_of}
-use Rattle.grammar.proofs.Steps.{Connects, connects-code}
-use Rattle.fields.proofs.Expressions.{connects-body}
+use Rattle.grammar.proofs.Steps.{Connects, connects-code, first-at, as-leaf}
 use Rattle.fields.specs.Decoded.{LeafAt, leaf_item}
 use Rattle.terms.specs.Questions.{clause_has, WalkedOver, Walks}
 
@@ -36,11 +35,6 @@ use Rattle.terms.specs.Questions.{clause_has, WalkedOver, Walks}
 join-has : {kind : ℕ} {join : E → E → E} → Connective kind join → (q : List ℕ → Bool) (a b : E) → clause_has q (join a b) ≡ (clause_has q a || clause_has q b)
 unfolding clause_has
 join-has is q a b = rw is.of-leaves (any_append q (leaves a) (leaves b))
-
--- the item of a leaf
-as-leaf : {item : Item} → (item ≡ Leaf) ⊎ (item ≡ Count) → LeafItem (code_of item) (body_of item)
-as-leaf (inl e) = rw e leaf-item
-as-leaf (inr e) = rw e count-item
 
 module _ (s : List ℕ) (at items : ℕ) (w : StandsExpr s at items) where
   -- it stands within the bytes, and has an item
@@ -97,18 +91,14 @@ module _ (s : List ℕ) (P : (List ℕ → Bool) → Type 0) (at items : ℕ) wh
     parts : (x : E) (t : List ℕ) → read_expr items items (drop at s) ≡ some (x, t) → Parts j.join items s at x t
     parts x t found = join_is j.is items items s at x t refl found
 
-    -- the first stands right after its byte
-    first-at : at + 1 + body_of item ≡ at + 1
-    first-at = omega (arith, connects-body is)
-
     pub stands-first : StandsExpr s at items → StandsExpr s (at + 1 + body_of item) (items - 1)
-    stands-first w = let p = parts w.0 w.1 w.2 in rw first-at (p.a, p.u, p.first)
+    stands-first w = let p = parts w.0 w.1 w.2 in rw (first-at is at) (p.a, p.u, p.first)
 
     -- the first has it
     pub first_found : Walks s P (at + 1 + body_of item) (items - 1) None → Walks s P at items None
     first_found walks x t found q asks =
         let p = parts x t found in
-        let has : clause_has q p.a ≡ true = (rw first-at at walks) p.a p.u p.first q asks in
+        let has : clause_has q p.a ≡ true = (rw (first-at is at) at walks) p.a p.u p.first q asks in
         rw (p.is, join-has j.is.is q p.a p.b, has)
 
     module _ (second : Spot) (walks : Walks s P (at + 1 + body_of item) (items - 1) (Some second)) where
@@ -117,7 +107,7 @@ module _ (s : List ℕ) (P : (List ℕ → Bool) → Type 0) (at items : ℕ) wh
           ((q : List ℕ → Bool) → P q → clause_has q p.a ≡ false) × (read_expr second.items second.items (drop second.at s) ≡ some (p.b, t)) × (size p.a + second.items ≡ items - 1)
       left x t found =
           let p = parts x t found in
-          let w : WalkedOver s P (items - 1) p.a p.u (Some second) = (rw first-at at walks) p.a p.u p.first in
+          let w : WalkedOver s P (items - 1) p.a p.u (Some second) = (rw (first-at is at) at walks) p.a p.u p.first in
           let rest : items - 1 - size p.a ≡ second.items = omega arith in
           (w.0, rw (← rest, ← w.1) p.second, w.3)
 

@@ -1,8 +1,7 @@
 -- The functions of the cycle meet their contracts, their calls within the cycle being smaller. Assumes nothing.
 use Prim.Native.Nat.{ℕ}
 use native.Mathlib.Omega.{arith}
-use mathlib.Core.Path.{◌≡◌, refl, sym, ◌∙◌}
-use mathlib.Core.Bool.{true}
+use mathlib.Core.Path.{◌≡◌, sym, ◌∙◌}
 use mathlib.Core.List.{◌∷◌}
 use mathlib.Core.Logic.{inl, inr}
 use borrow.Author.Rules.{rules}
@@ -10,7 +9,6 @@ use Rattle.meaning.specs.Terms.{kind_of}
 use Rattle.meaning.proofs.Equation.{rank-least}
 use Rattle.format.specs.Grammar.{expr_limit}
 use Rattle.format.specs.Fields.{terms_of}
-use Rattle.index.specs.Chains.{push_if}
 use Rattle.index.specs.Asked.{found}
 use Rattle.index.specs.Walk.{marked_left}
 use Rattle.marks.specs.Marks.{Marks}
@@ -71,10 +69,9 @@ first_within-loop-at-init t c =
     rw (first_within-all t i) (rw (← kind) (of-mark marks), scan-start _ _ _ _ _ _ _ kind marks)
 
 pub first_within-loop-at-preserved : goal.first_within-loop-at-preserved
-unfolding push_if
 first_within-loop-at-preserved t c = (
   (first_within-own t (goal.at.first_within-loop-at-preserved t c).In-Some).1,
-  scan-take _ _ _ _ _ _ _ c.loop-at.first true c.in-Some.at (marked_left c.next.new.self) c.in-Some.ensures.steps c.loop-at.invariant.1 refl c.happening-time.ensures c.within.ensures c.earlier_of-first.ensures,
+  scan-take _ _ _ _ _ _ _ c.loop-at.first c.in-Some.at (marked_left c.next.new.self) c.in-Some.ensures.steps c.loop-at.invariant.1 c.happening-time.ensures c.within.ensures c.earlier_of-first.ensures,
 )
 
 -- happening: when an event happens by a record

@@ -8,9 +8,9 @@ use Rattle.meaning.specs.Terms.{Expr}
 use Rattle.format.specs.Bytes.{byte_at}
 use Rattle.format.proofs.ExprLaws.{expr-always, Joining, and-joins, or-joins, except-joins}
 use Rattle.format.proofs.GrammarLaws.{E}
-use Rattle.grammar.proofs.Steps.{connects-code}
+use Rattle.grammar.proofs.Steps.{connects-code, Reads}
 use Rattle.fields.specs.Decoded.{JoinedAt}
-use Rattle.fields.proofs.Expressions.{Reads, no_items, no_kind, inside, leaf-unread, leaf-read, head_unread, is-except, first-spot, first-unread, second-unread, joined_at}
+use Rattle.fields.proofs.Expressions.{no_items, no_kind, inside, leaf-unread, leaf-read, head_unread, is-except, first-spot, first-unread, second-unread, joined_at}
 use Rattle.fields.proofs.expression_at.Goals.{In-And, In_ok-second-in-And, In_ok-read_expression-in-And}
 use Rattle.fields.proofs.expression_at.Goals as goal
 
