@@ -21,8 +21,8 @@
  * Time
  * Under terms that cite no stage a call takes about twice as long for a log twice as long, if each subject matches a few records
  * (docs/SPEED.md); where each matches a fixed part of the log, a report takes up to four times as long. On a page with room for five rows for
- * each subject under each schema it takes about two thirds of its time on a shorter one that holds the rows: on the shorter one they are
- * counted before they are written.
+ * each subject under each schema it takes half to two thirds of its time on a shorter one that holds the rows: on the shorter one they
+ * are counted before they are written.
  *
  * Records are looked up by a hash of their values, which is no secret. Whoever picks values with equal hashes makes each lookup walk through
  * most values of the log: on full logs made so under the sample's terms a report and a check took 40 to 140 times as long.
@@ -69,9 +69,9 @@ enum agreements_refusal {
     AGREEMENTS_TERMS_TOO_LONG = 1,     /* they have more than 16,384 bytes */
     AGREEMENTS_BROKEN_GRAMMAR = 2,     /* they are not 1 to 32 kinds, then 1 to 16 schemas of a head and three expressions of up to 31 items
                                           (03 to 08), all of them whole, and nothing more */
-    AGREEMENTS_FIELD_OUT_OF_RANGE = 3, /* a kind's number is not its place, a mask is 0, a key is not in its kind's mask or a party in that of
-                                          the subject kind, a norm type, kind, form or sign does not exist, a lower bound, or the upper one of
-                                          a count, is open, an offset is above 2,147,483,647, or what has to be 0 is not */
+    AGREEMENTS_FIELD_OUT_OF_RANGE = 3, /* a kind's number is not its place, a mask is 0, a key is not in its kind's mask, a party is not in the
+                                          subject kind's mask, a norm type, kind, form or sign does not exist, a lower bound, or the upper one
+                                          of a count, is open, an offset is above 2,147,483,647, or what has to be 0 is not */
     AGREEMENTS_CITATION_TOO_HIGH = 4,  /* a clause cites a stage of its own rank or of a higher one (docs/FORMAT.md, Citations) */
     AGREEMENTS_NOTHING_SHARED = 5,     /* a kind that a clause names, by an event or a count (for a stage: its schema's subject kind), has no
                                           attribute in common with the subject kind */

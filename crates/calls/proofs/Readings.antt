@@ -56,7 +56,7 @@ end_of_time =
 abbrev citing : List ℕ → List ℕ → Outcome
 citing clause log = reported (norm 2 always E10 F20 ++ schema 2 0 0 0 always clause nothing) log
 
--- reading and meaning joined: each item but 08, which `count_cases` has, each sign of a bound, each form and each type of norm, from bytes to rows in
+-- reading and meaning joined: each sign of a bound, each form, each type of norm and each item but 08 (that is in `count_cases`), from bytes to rows in
 -- bytes. What they mean is told apart case by case in the list over the meaning
 abbrev joined_cases : List (Case Outcome)
 joined_cases =

@@ -30,7 +30,7 @@ use Rattle.grammar.specs.Found.{after_item, FoundExpr}
 use Rattle.grammar.proofs.Steps.{Connects, first-at, as-leaf, Reads, expr-no-items, expr-no-kind}
 use Rattle.fields.specs.Decoded.{LeafAt, leaf_item, JoinedAt}
 
--- the kind byte of an item is not what stands past the end
+-- an item byte is not what stands past the end
 some-code : (k : Item) → 1 ≤ code_of k
 some-code Kind = omega arith
 some-code Schema = omega arith
@@ -56,11 +56,11 @@ module _ (s : List ℕ) (at items : ℕ) where
   pub no_items : items ≡ 0 → expr_at s at items ≡ leaf neither
   no_items e = expr-none items s at items (omega arith) (expr-no-items items s at e items (omega arith))
 
-  -- no kind byte of an expression
+  -- no item byte of an expression
   pub no_kind : (3 ≤ byte_at s at → byte_at s at ≤ 8 → ⊥) → expr_at s at items ≡ leaf neither
   no_kind out = expr-none items s at items (omega arith) (expr-no-kind items s at out items (omega arith))
 
-  -- an item's kind byte stands inside the bytes
+  -- an item byte stands inside the bytes
   pub inside : (k : Item) → code_of k ≡ byte_at s at → at < length s
   inside k b = byte_inside s at (omega (arith, b, some-code k))
 

@@ -1,7 +1,7 @@
 -- The item of a leaf at a place, by the bytes that the code reads.
 --     happening-here, count-here                  what the items 03 and 08 stand for
 --     happening-wrong-here, count-wrong-here      refusal 3 of them
---     count-as, happening-as, wrong-…             by the item's kind byte
+--     count-as, happening-as, wrong-…             by the item byte
 --     untyped                                     and of the type of an item 02, by its byte
 -- Assumes nothing.
 use Prim.Native.Nat.{ℕ, zero, suc, ◌+◌}
@@ -51,7 +51,7 @@ module _ (s : List ℕ) (at : ℕ) where
   or-neither std.None e = rw (← e)
   or-neither (std.Some x) e = rw (← e)
 
-  -- what an item 08 stands for, by its kind byte
+  -- what an item 08 stands for, by its item byte
   pub count-as : {item : Item} (o : std.Option Atom) → LeafAt s at item → item ≡ Count → decoded o ≡ count_of (take 20 (drop at s))
       → std.unwrap_or o neither ≡ leaf_from (leaf_item s at item)
   unfolding leaf_from leaf_of
@@ -94,7 +94,7 @@ module _ (terms : Terms) (s : List ℕ) (at : ℕ) where
         bound-wrong-here terms s at 13 20 (omega arith),
       )
 
-  -- refusal 3 of an item 08 by its kind byte, and of an item 03
+  -- refusal 3 of an item 08 by its item byte, and of an item 03
   pub wrong-count : {item : Item} → LeafAt s at item → item ≡ Count → leaf_wrong terms (leaf_item s at item) ≡ count_wrong terms (take 20 (drop at s))
   unfolding leaf_wrong
   wrong-count h e = rw e (let b : 8 ≡ byte_at s at = rw e at h.1 in rw (byte-first s at 20 (omega arith) ∙ sym b))

@@ -55,7 +55,7 @@ Stands items s x t = (s ≡ expr_bytes x ++ t) × (size x ≤ items) × All Whol
 
 -- what the three connectives share
 pub record Connective (kind : ℕ) (join : E → E → E) : Type 0 where
-  -- in bytes: its kind byte, then both
+  -- in bytes: its item byte, then both
   pub bytes : (a b : E) → expr_bytes (join a b) ≡ kind ∷ (expr_bytes a ++ expr_bytes b)
   -- in items
   pub items : (a b : E) → size (join a b) ≡ suc (size a + size b)
@@ -77,7 +77,7 @@ pub except-is : Connective 6 except
 unfolding expr_bytes size leaves
 except-is = record { bytes = λ a b. refl; items = λ a b. refl; of-leaves = λ a b. refl }
 
--- an item of no body is its kind byte
+-- an item of no body is its item byte
 bare-sound : (kind : ℕ) (s : List ℕ) {body t : List ℕ} → item kind 0 s ≡ some (body, t) → s ≡ kind ∷ t
 bare-sound kind s {body} {t} e = go body (item-sound kind 0 s e)
   where

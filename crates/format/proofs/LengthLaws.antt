@@ -1,5 +1,5 @@
 -- How long terms that keep the grammar can be.
---     expr-short           an expression of 31 items has 335 bytes at most: 16 counts, and the 15 items that join them
+--     expr-short           an expression of at most 31 items has 335 bytes at most: 16 counts, and the 15 items that join them
 --     grammatical-short    so terms have 16,320 bytes at most
 --     long-breaks          and longer ones break the grammar
 -- Assumes nothing.
@@ -20,7 +20,7 @@ leaf-short : (item : List ℕ) → WholeLeaf item → length item ≤ 20
 leaf-short item (item_03 body l) = omega arith
 leaf-short item (item_08 body l) = omega arith
 
--- twice the bytes, since an expression has one leaf more than connectives
+-- twice the bytes, so that there are no halves: n leaves and n − 1 connectives have 21n − 1 bytes at most
 abbrev Short : E → Type 0
 Short x = 2 * length (expr_bytes x) ≤ 21 * size x + 19
 
@@ -28,7 +28,7 @@ Short x = 2 * length (expr_bytes x) ≤ 21 * size x + 19
 both-short : {kind : ℕ} {join : E → E → E} → Connective kind join → (a b : E) → Short a → Short b → Short (join a b)
 both-short is a b p q = omega (arith, is.items a b, ap length (is.bytes a b), length-append (expr_bytes a) (expr_bytes b), p, q)
 
--- each item of an expression adds its share
+-- every expression with whole leaves is that short
 expr-bytes : (x : E) → All WholeLeaf (leaves x) → Short x
 unfolding expr_bytes size leaves
 expr-bytes (leaf item) w = omega (arith, leaf-short item w.0)
@@ -37,12 +37,12 @@ expr-bytes (or a b) w = let each = all_split WholeLeaf (leaves a) (leaves b) w i
 expr-bytes (except a b) w = let each = all_split WholeLeaf (leaves a) (leaves b) w in both-short except-is a b (expr-bytes a each.0) (expr-bytes b each.1)
 expr-bytes always w = omega arith
 
--- an expression of 31 items
+-- an expression of 31 items at most
 pub expr-short : (x : E) → WholeExpr x → length (expr_bytes x) ≤ 335
 unfolding expr_limit
 expr-short x w = omega (arith, expr-bytes x w.whole_leaves, w.items)
 
--- a schema
+-- a schema: the 5 bytes of its head, and three expressions
 schema-short : (x : SchemaItems) → WholeSchema x → length (schema_bytes x) ≤ 1010
 unfolding schema_bytes
 schema-short x w =
@@ -83,7 +83,7 @@ grammatical-short s g =
       g.schemas_count.1,
     )
 
--- longer terms break it: what refusal 1 turns away, refusal 2 would
+-- longer terms break the grammar: where refusal 1 holds, refusal 2 holds too
 pub long-breaks : (s : List ℕ) → 16320 < length s → breaks_grammar (file_of s) ≡ true
 long-breaks s h = go (breaks_grammar (file_of s)) refl
   where

@@ -127,7 +127,7 @@ other kind n (b ∷ t) h = rw (ne_eqb b kind h)
 pub item-other : (kind n : ℕ) (s : List ℕ) (at : ℕ) → (byte_at s at ≡ kind → ⊥) → item kind n (drop at s) ≡ none
 item-other kind n s at h = other kind n (drop at s) (λ e. h (sym (byte-front s at) ∙ e))
 
--- an item has its kind byte and its body
+-- an item has its byte and its body
 short : (kind n : ℕ) (t : List ℕ) → length t < 1 + n → item kind n t ≡ none
 unfolding item
 short kind n [] h = refl

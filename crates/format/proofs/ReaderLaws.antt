@@ -1,7 +1,7 @@
 -- Laws of the readers of `Bytes`: what an item is, and what reading one thing after another finds.
 --     none-some, found-eq             what a finding tells
 --     bind-cases, or_else-cases     what the parts of a joined reading found
---     item-sound, item-whole          an item is read exactly where its kind byte and a body of its length stand
+--     item-sound, item-whole          an item is read exactly where its item byte and a body of its length stand
 --     many-induction                  what holds of nothing read, and goes on with each thing read, holds of all that `many` reads
 --     many-bytes                      what was read and what is left over, written one after another, are the bytes
 --     many-all, many-count            each thing read has what the reader promises; at most n are read
@@ -41,7 +41,7 @@ pub or_else-cases : {A C : Type 0} {o p : Option A} {a : A} → (o ≡ some a �
 or_else-cases {o = none} f g e = g e
 or_else-cases {o = some x} f g e = f e
 
--- what is read as an item stands at the front, kind byte and body, and the body has the item's length
+-- what is read as an item stands at the front, item byte and body, and the body has the item's length
 pub item-sound : (kind n : ℕ) (s : List ℕ) {body t : List ℕ} → item kind n s ≡ some (body, t) → (s ≡ kind ∷ (body ++ t)) × (length body ≡ n)
 unfolding item
 item-sound kind n [] e = (cc, cc)

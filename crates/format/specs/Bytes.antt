@@ -47,7 +47,7 @@ many reader (suc n) s = elim (reader s) [
   | some found ↦ let rest = many reader n found.1 in (found.0 ∷ rest.0, rest.1)
 ]
 
--- an item (sentence 2): its kind byte, then a body of n bytes, whatever they hold; the body is what is read
+-- an item (sentence 2): its byte, then a body of n bytes, whatever they hold; the body is what is read
 unfoldable pub item : ℕ → ℕ → Reader (List ℕ)
 item kind n [] = none
 item kind n (b ∷ s) = cond (eqb b kind && leb n (length s)) (some (take n s, drop n s)) none

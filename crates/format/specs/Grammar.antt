@@ -1,4 +1,4 @@
--- The grammar of terms: items by their kind bytes and lengths alone, whatever their bodies hold.
+-- The grammar of terms: items by their item bytes and lengths alone, whatever their bodies hold.
 -- Document 01, 'Terms and log', 'Terms items' and 'Grammar'; refusal 2 of the table; document 02, wish 1. Assumes nothing: these are definitions.
 use Rattle.std.specs.Prelude.{ℕ, zero, suc, ◌+◌, ◌-◌, ◌≤◌, ◌≡◌, Bool, not, ◌||◌, length}
 use mathlib.Core.List.{List, [], ◌∷◌, ◌++◌, flat_map}

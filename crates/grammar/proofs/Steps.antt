@@ -1,6 +1,6 @@
 -- The readers of the model at the places and numbers that the code has.
 --     Ends, Connects, as-leaf, first-at     items by what they are in an expression: their bytes and bodies
---     expr-…                                an expression: one lemma for each answer of the code
+--     Reads, expr-…                         an expression: one lemma for each answer of the code
 --     item-ends, schema-found               where an item ends, and a schema with the places of its clauses
 --     starts-step                           the starts of one schema more
 -- Assumes nothing.
@@ -65,7 +65,7 @@ Ends k = (k ≡ Leaf) ⊎ ((k ≡ Always) ⊎ (k ≡ Count))
 abbrev pub Connects : Item → Type 0
 Connects k = (k ≡ And) ⊎ ((k ≡ Or) ⊎ (k ≡ Except))
 
--- the kind bytes of those that join two
+-- the item bytes of those that join two
 pub connects-code : {k : Item} {b : ℕ} → Connects k → code_of k ≡ b → (4 ≤ b) × (b ≤ 6)
 connects-code {b = b} (inl e) h = let f : 4 ≡ b = rw e at h in (omega arith, omega arith)
 connects-code {b = b} (inr (inl e)) h = let f : 5 ≡ b = rw e at h in (omega arith, omega arith)
@@ -86,7 +86,7 @@ pub as-leaf : {k : Item} → (k ≡ Leaf) ⊎ (k ≡ Count) → LeafItem (code_o
 as-leaf (inl e) = rw e leaf-item
 as-leaf (inr e) = rw e count-item
 
--- and of those that end one
+-- the item byte of one that ends an expression is not 0
 pub ends-code : {k : Item} {b : ℕ} → Ends k → code_of k ≡ b → 1 ≤ b
 ends-code {b = b} (inl e) h = let f : 3 ≡ b = rw e at h in omega arith
 ends-code {b = b} (inr (inl e)) h = let f : 7 ≡ b = rw e at h in omega arith
@@ -107,7 +107,7 @@ module _ (items : ℕ) (s : List ℕ) (at : ℕ) where
   unfolding read_expr
   expr-no-items e n h = rw e (elim n as (λ k. read_expr k 0 (drop at s) ≡ none) [ zero ↦ refl | suc n ↦ refl ])
 
-  -- no kind byte of an expression
+  -- no item byte of an expression
   pub expr-no-kind : (3 ≤ byte_at s at → byte_at s at ≤ 8 → ⊥) → Reads items s at None
   expr-no-kind out n h = read_none n items s at out
 

@@ -13,7 +13,7 @@ abbrev pub Found : {A : Type 0} → Reader A → List ℕ → ℕ → Option ℕ
 Found {A} reader s at (Some end) = (x : A) × (reader (drop at s) ≡ some (x, drop end s)) × (at < end) × (end ≤ length s)
 Found {A} reader s at None = reader (drop at s) ≡ none
 
--- the spot after an item: after its kind byte and its body, with one item less
+-- the spot after an item: after its item byte and its body, with one item less
 abbrev pub after_item : Spot → Item → Spot
 after_item spot item = record { at = spot.at + 1 + body_of item; items = spot.items - 1 }
 

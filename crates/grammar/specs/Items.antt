@@ -1,11 +1,11 @@
--- The items of terms by their kind bytes. Assumes nothing: these are definitions.
+-- The items of terms by their item bytes. Assumes nothing: these are definitions.
 use Rattle.std.specs.Prelude.{◌≡◌, ℕ, ◌≤◌, List, Option, MatchOption, Result, MatchResult}
 use Rattle.format.specs.Bytes.{byte_at}
 use Rattle.grammar.specs.declared.Item.{Item}
 use Rattle.grammar.specs.declared.Item.TheVariants.{Kind, Schema, Leaf, And, Or, Except, Always, Count}
 use Rattle.grammar.specs.declared.UnknownItem.{UnknownItem}
 
--- the kind byte of an item (Terms items)
+-- an item's byte (Terms items)
 abbrev pub code_of : Item → ℕ
 code_of Kind = 1
 code_of Schema = 2
@@ -27,10 +27,10 @@ body_of Except = 0
 body_of Always = 0
 body_of Count = 19
 
--- the item with this kind byte, or an error with a byte that no item has
+-- the item with this item byte, or an error with a byte that no item has
 abbrev pub Names : ℕ → Result Item UnknownItem → Type 0
 Names byte r = MatchResult r (λ item. code_of item ≡ byte) (λ e. (e.0 ≡ byte) × (1 ≤ byte → byte ≤ 8 → ⊥))
 
--- the item whose kind byte stands at a place of terms, or none if no item has that byte
+-- the item that the byte at a place of terms names, or none if it names no item
 abbrev pub ItemAt : List ℕ → ℕ → Option Item → Type 0
 ItemAt s at r = MatchOption r (1 ≤ byte_at s at → byte_at s at ≤ 8 → ⊥) (λ item. code_of item ≡ byte_at s at)

@@ -1,4 +1,4 @@
-// The reading of terms by kind bytes and lengths alone: what stands where.
+// The reading of terms by item bytes and lengths alone: what stands where.
 #![tactic(auto)]
 
 mod outline;
@@ -22,7 +22,7 @@ pub const SCHEMAS_LIMIT: usize = 16;
 // How many clauses that makes: three for each schema.
 pub const RANKS: usize = 48;
 
-// The items of terms, each with its kind byte.
+// The items of terms, each by its item byte.
 #[derive(Clone, Copy, Debug, PartialEq, Eq)]
 pub enum Item {
     Kind = 1,
@@ -35,7 +35,7 @@ pub enum Item {
     Count = 8,
 }
 
-// A byte that is no item's kind byte.
+// A byte that names no item.
 #[derive(Clone, Copy, Debug, PartialEq, Eq)]
 pub struct UnknownItem(pub u8);
 
@@ -138,14 +138,14 @@ pub fn u32_at(s: &[u8], at: usize) -> u32
     u32::from_le_bytes([s[at], s[at + 1], s[at + 2], s[at + 3]])
 }
 
-// The item whose kind byte stands at a place, if an item has that byte.
+// The item that the byte at a place names, if it names one.
 pub fn item_at(s: &[u8], at: usize) -> Option<Item>
     ensures { ItemAt s.now at result }
 {
     Item::try_from(byte_at(s, at)).ok()
 }
 
-// The end of an item whose kind byte stands at a place, whatever its body holds.
+// The end of an item that starts at a place, whatever its body holds.
 fn item_end(s: &[u8], at: usize, kind: Item) -> Option<usize>
     requires { (at < length s.now) × (code_of kind ≡ byte_at s.now at) }
     ensures { Found (item (code_of kind) (body_of kind)) s.now at result }

@@ -1,4 +1,4 @@
-// Terms with what is read of them by kind bytes and lengths.
+// Terms with what is read of them by item bytes and lengths.
 ghost use Rattle.std.specs.Prelude.{◌≡◌};
 ghost use Rattle.grammar.specs.Places.{LaidOut};
 ghost use Rattle.grammar.specs.Props.{LaidOut_prop};

@@ -18,7 +18,7 @@ use Rattle.evaluate.proofs.Expressions.{occurs-times, stage-here}
 use Rattle.evaluate.proofs.Leaves.{event-never, plus-known, count-more, count-few, fails-empty, fails_met, fails-missed, occurs}
 use Rattle.evaluate.proofs.Scan.{scan-start, scan-take}
 use Rattle.evaluate.proofs.Weights.{consequent-below}
-use Rattle.evaluate.proofs.+stage_times.Goals.{first_within-After-into_iter-at-iterator, first_within-In-Some, happening-After-correlates}
+use Rattle.evaluate.proofs.+stage_times.Goals.{first_within-After-into_iter-at-iterator, first_within-In-Some}
 use Rattle.evaluate.proofs.+stage_times.Goals as goal
 
 -- clause_times: the times of a clause, as many as are needed

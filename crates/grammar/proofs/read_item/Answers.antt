@@ -12,7 +12,7 @@ use Rattle.grammar.specs.Items.{code_of}
 use Rattle.grammar.proofs.read_item.Goals.{then-s-at-via-then-s-at, then-s-at-via-else-s-at+then-s-at-2}
 use Rattle.grammar.proofs.read_item.Goals as goal
 
--- the kind byte, as the code takes it of the item
+-- the item byte, as the code takes it of the item
 code-is : (k : Item) → tag_of the_type k + 1 ≡ code_of k
 code-is Kind = refl
 code-is Schema = refl
