@@ -9,7 +9,7 @@ use mathlib.Core.Bool.{Bool, true, false, cond, ◌&&◌, true≢false, false≢
 use mathlib.Core.List.Memᴰ
 use mathlib.Core.List.{List, [], ◌∷◌, ◌++◌, Memᴰ}
 use lib.Dec.{ltb}
-use lib.ListN.{take}
+use lib.ListN.{length, take}
 use borrow.Author.Tests.{ltb-true}
 use Rattle.calls.specs.declared.Refusal.TheVariants.{TermsTooLong, BrokenGrammar, FieldOutOfRange, CitationTooHigh, NothingShared, UsedTooLong, BrokenRecord, StampFalls, KeyRepeats, PageTooShort, NotOneRecord, StampTooLow, KeyPresent, NoRoom, NoSchema, NoSubject}
 use Rattle.meaning.specs.declared.Entries.{Entries}
@@ -19,10 +19,11 @@ use Rattle.meaning.specs.Log.{stamps_fall, key_repeats}
 use Rattle.format.specs.Grammar.{file_of, breaks_grammar}
 use Rattle.format.specs.Fields.{field_wrong, citation_wrong, unshared_event, terms_of}
 use Rattle.format.specs.Records.{record_from, broken_record, log_of, not_one_record}
-use Rattle.calls.specs.Calls.{Check, refusal, terms_too_long, used_too_long, stamp_too_low, key_present, no_room, page_too_short, no_schema, terms_checks, used_checks, record_checks, log_checks, event_checks, page_checks, rows_of, missing, standing_subject, key_checks, checked, check_terms, check_log, Outcome, unless_refused, append, on_page, report, standing_as, standing}
+use Rattle.calls.specs.Calls.{Check, refusal, terms_limit, terms_too_long, used_too_long, stamp_too_low, key_present, no_room, page_too_short, no_schema, terms_checks, used_checks, record_checks, log_checks, event_checks, page_checks, rows_of, missing, standing_subject, key_checks, checked, check_terms, check_log, Outcome, unless_refused, append, on_page, report, standing_as, standing}
 use Rattle.calls.specs.Lasting.{Accepted}
 use Rattle.meaning.proofs.ListLaws.{all_append}
 use Rattle.meaning.proofs.MemberLaws.{member-has}
+use Rattle.format.proofs.LengthLaws.{long-breaks}
 use Rattle.calls.proofs.AnswerLaws.{refusal-positive}
 
 -- no check of a list holds
@@ -168,6 +169,11 @@ rising w terms log used = record {
   report-rises = λ rows page. refl;
   standing-rises = λ schema key m. refl;
 }
+
+-- where refusal 1 holds, refusal 2 holds too: 1 is never the only fault
+pub too-long-breaks : (terms : List ℕ) → terms_too_long terms ≡ true → breaks_grammar (file_of terms) ≡ true
+unfolding terms_too_long terms_limit
+too-long-breaks terms e = long-breaks terms (omega (arith, ltb-true terms_limit (length terms) e))
 
 -- each check of terms is a refusal's, and no refusal has the number 0
 terms-numbered : (terms : List ℕ) → Numbered (terms_checks terms)

@@ -25,17 +25,20 @@ abbrev Short : E → Type 0
 Short x = 2 * length (expr_bytes x) ≤ 21 * size x + 19
 
 -- two expressions joined
-both-short : {kind : ℕ} {join : E → E → E} → Connective kind join → (a b : E) → Short a → Short b → Short (join a b)
-both-short is a b p q = omega (arith, is.items a b, ap length (is.bytes a b), length-append (expr_bytes a) (expr_bytes b), p, q)
+both-short : {kind : ℕ} {join : E → E → E} → Connective kind join → (a b : E) → (All WholeLeaf (leaves a) → Short a) → (All WholeLeaf (leaves b) → Short b)
+    → All WholeLeaf (leaves (join a b)) → Short (join a b)
+both-short is a b p q w =
+    let each = all_split WholeLeaf (leaves a) (leaves b) (rw is.of-leaves at w) in
+    omega (arith, is.items a b, ap length (is.bytes a b), length-append (expr_bytes a) (expr_bytes b), p each.0, q each.1)
 
 -- every expression with whole leaves is that short
 expr-bytes : (x : E) → All WholeLeaf (leaves x) → Short x
 unfolding expr_bytes size leaves
-expr-bytes (leaf item) w = omega (arith, leaf-short item w.0)
-expr-bytes (and a b) w = let each = all_split WholeLeaf (leaves a) (leaves b) w in both-short and_is a b (expr-bytes a each.0) (expr-bytes b each.1)
-expr-bytes (or a b) w = let each = all_split WholeLeaf (leaves a) (leaves b) w in both-short or_is a b (expr-bytes a each.0) (expr-bytes b each.1)
-expr-bytes (except a b) w = let each = all_split WholeLeaf (leaves a) (leaves b) w in both-short except-is a b (expr-bytes a each.0) (expr-bytes b each.1)
-expr-bytes always w = omega arith
+expr-bytes (leaf item) = λ w. omega (arith, leaf-short item w.0)
+expr-bytes (and a b) = both-short and_is a b (expr-bytes a) (expr-bytes b)
+expr-bytes (or a b) = both-short or_is a b (expr-bytes a) (expr-bytes b)
+expr-bytes (except a b) = both-short except-is a b (expr-bytes a) (expr-bytes b)
+expr-bytes always = λ w. omega arith
 
 -- an expression of 31 items at most
 pub expr-short : (x : E) → WholeExpr x → length (expr_bytes x) ≤ 335
@@ -83,7 +86,7 @@ grammatical-short s g =
       g.schemas_count.1,
     )
 
--- longer terms break the grammar: where refusal 1 holds, refusal 2 holds too
+-- longer terms break the grammar
 pub long-breaks : (s : List ℕ) → 16320 < length s → breaks_grammar (file_of s) ≡ true
 long-breaks s h = go (breaks_grammar (file_of s)) refl
   where
