@@ -15,13 +15,18 @@ use engine::{Answer, Engine, Log};
 use measure::{head, line, measured, Way};
 use rows::ROW;
 use second::Outcome;
-use shares::{bytes, last_stamp, shares, Record, LOG_LIMIT, SHARE, WRITE};
+use shares::{bytes, last_stamp, shares, Record, LOG_LIMIT, SHARE, WRITE, WRITTEN};
 
 /// Parts of the longest log.
 const ALL: [usize; 4] = [8, 4, 2, 1];
 const SHORT: [usize; 3] = [64, 32, 16];
 /// The longest log on which plain evaluation of many leaves is timed; twice the log takes it four times as long.
 const PLAIN_PART: usize = 8;
+
+/// What the timed calls answer.
+const ACCEPTED: u32 = 0;
+const KEY_REPEATS: u32 = 9;
+const KEY_PRESENT: u32 = 13;
 
 /// What a line of a report and one of a check has first.
 const REPORT: &str = "terms, log bytes, records, rows";
@@ -45,6 +50,7 @@ const ROOM: Page = Page::Room(3);
 fn main() {
     reports();
     checks_and_appends();
+    repeated_keys();
     many_leaves();
     one_hash();
     database();
@@ -105,7 +111,7 @@ impl Reports<'_> {
 
 /// Prints a line for ways of one report and gives their times.
 fn report_line(name: &str, records: &[Record], ways: Vec<Way>, before: &[f64]) -> Vec<f64> {
-    let (rows, times) = measured(ways);
+    let (rows, times) = measured(ACCEPTED, ways);
     assert!(rows > 0, "the report has rows");
     let [length, count] = counts(records);
     line(&[name, &length, &count, &rows.to_string()], &times, before);
@@ -152,30 +158,90 @@ fn checks_and_appends() {
     let title = "Check log and append under the sample terms, by log length.";
     head(title, CHECK, &["second"], "growth");
     let terms = shares::sample();
-    lines(&ALL, 0, |records, before| {
-        check_line("check log", &terms, records, before)
+    let (check, append) = (accepted("check log", &terms), accepted("append", &terms));
+    lines(&ALL, 0, |records, before| check.check_line(records, before));
+    lines(&ALL, WRITE, |records, before| {
+        append.append_line(records, shares::new_key(records), before)
     });
-    lines(&ALL, WRITE, |records, before| append_line(&terms, records, before));
 }
 
-/// Prints a line for call 2 and gives its times.
-fn check_line(name: &str, terms: &[u8], records: &[Record], before: &[f64]) -> Vec<f64> {
-    let log = bytes(records);
-    let log = whole(terms, &log);
-    let mut engine = Engine::new();
-    let ways: Vec<Way> = vec![
-        Box::new(|| engine.check_log(log)),
-        Box::new(|| checked(second::check_log(log.terms, log.buffer, log.used))),
-    ];
-    call_line(name, records, ways, before)
+/// Calls 2 and 3 on a full log whose last write, or whose event, has a new key, the newest of the keys before it, or the oldest.
+fn repeated_keys() {
+    let title = "Check log and append by the key of the last write; against a new key.";
+    head(title, CHECK, &["second"], "against new");
+    let terms = shares::sample();
+    let full = shares(LOG_LIMIT / SHARE);
+    let (last, older) = full.split_last().expect("a full log has records");
+    let keys = shares::keys(older);
+    let (newest, oldest) = (keys[keys.len() - 1], keys[0]);
+
+    let before = accepted("check log, a new key", &terms).check_line(&full, &[]);
+    for (name, key) in [
+        ("check log, the newest key", newest),
+        ("check log, the oldest key", oldest),
+    ] {
+        let again = (last.0, WRITTEN, vec![last.2[0], key]);
+        refused(name, KEY_REPEATS, &terms).check_line(&[older, &[again]].concat(), &before);
+    }
+    let before = accepted("append, a new key", &terms).append_line(older, shares::new_key(older), &[]);
+    for (name, key) in [("append, the newest key", newest), ("append, the oldest key", oldest)] {
+        refused(name, KEY_PRESENT, &terms).append_line(older, key, &before);
+    }
 }
 
-/// Prints a line for ways of one call and gives their times.
-fn call_line(name: &str, records: &[Record], ways: Vec<Way>, before: &[f64]) -> Vec<f64> {
-    let (_, times) = measured(ways);
-    let [length, count] = counts(records);
-    line(&[name, &length, &count], &times, before);
-    times
+/// A call that is timed: what its lines are called, its terms, and what it answers.
+struct Call<'a> {
+    name: &'a str,
+    terms: &'a [u8],
+    number: u32,
+}
+
+fn accepted<'a>(name: &'a str, terms: &'a [u8]) -> Call<'a> {
+    refused(name, ACCEPTED, terms)
+}
+
+fn refused<'a>(name: &'a str, number: u32, terms: &'a [u8]) -> Call<'a> {
+    Call { name, terms, number }
+}
+
+impl Call<'_> {
+    /// Prints a line for call 2 and gives its times.
+    fn check_line(&self, records: &[Record], before: &[f64]) -> Vec<f64> {
+        let log = bytes(records);
+        let log = whole(self.terms, &log);
+        let mut engine = Engine::new();
+        let ways: Vec<Way> = vec![
+            Box::new(|| engine.check_log(log)),
+            Box::new(|| checked(second::check_log(log.terms, log.buffer, log.used))),
+        ];
+        self.line(records, ways, before)
+    }
+
+    /// Prints a line for call 3, whose event has a key and just fits, and gives its times. Each call finds the buffer as the first one did.
+    fn append_line(&self, records: &[Record], key: u32, before: &[f64]) -> Vec<f64> {
+        let event = bytes(&[shares::one_more(records, key)]);
+        let log = bytes(records);
+        let buffer = [&log[..], &[0; WRITE]].concat();
+        let log = Log {
+            terms: self.terms,
+            buffer: &buffer,
+            used: log.len(),
+        };
+        let mut engine = Engine::new();
+        let ways: Vec<Way> = vec![
+            Box::new(|| engine.append(log, &event)),
+            Box::new(|| second::append(log.terms, log.buffer, log.used, &event).into()),
+        ];
+        self.line(records, ways, before)
+    }
+
+    /// Prints a line for ways of the call and gives their times.
+    fn line(&self, records: &[Record], ways: Vec<Way>, before: &[f64]) -> Vec<f64> {
+        let (_, times) = measured(self.number, ways);
+        let [length, count] = counts(records);
+        line(&[self.name, &length, &count], &times, before);
+        times
+    }
 }
 
 fn checked(number: u32) -> Answer {
@@ -185,24 +251,6 @@ fn checked(number: u32) -> Answer {
         memory: Vec::new(),
         strayed: false,
     }
-}
-
-/// Prints a line for call 3, whose event just fits, and gives its times. Each call finds the buffer as the first one did.
-fn append_line(terms: &[u8], records: &[Record], before: &[f64]) -> Vec<f64> {
-    let event = bytes(&[shares::one_more(records)]);
-    let log = bytes(records);
-    let buffer = [&log[..], &[0; WRITE]].concat();
-    let log = Log {
-        terms,
-        buffer: &buffer,
-        used: log.len(),
-    };
-    let mut engine = Engine::new();
-    let ways: Vec<Way> = vec![
-        Box::new(|| engine.append(log, &event)),
-        Box::new(|| second::append(log.terms, log.buffer, log.used, &event).into()),
-    ];
-    call_line("append", records, ways, before)
 }
 
 /// Reports under terms with as many leaves as there may be.
@@ -244,9 +292,9 @@ fn one_hash() {
         reports.line(&with_chains(name, log), log, &before);
     }
     head("Check log on the same.", CHECK, &["second"], "against usual");
-    let before = check_line("usual", &terms, &usual, &[]);
+    let before = accepted("usual", &terms).check_line(&usual, &[]);
     for (name, log) in &logs {
-        check_line(name, &terms, log, &before);
+        accepted(name, &terms).check_line(log, &before);
     }
 }
 
@@ -285,7 +333,7 @@ fn database_line(terms: &[u8], records: &[Record], before: &[f64]) -> Vec<f64> {
             database.lookups(moment, &page),
         ]
     };
-    measure::answered(&mut ways(middle(records)));
+    measure::answered(ACCEPTED, &mut ways(middle(records)));
     report_line("sample share", records, ways(late(records)), before)
 }
 

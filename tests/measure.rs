@@ -22,10 +22,10 @@ extern "C" {
 /// CLOCK_THREAD_CPUTIME_ID of Linux.
 const OWN_THREAD: i32 = 3;
 
-/// The value that all ways answer.
-pub fn answered(ways: &mut [Way]) -> u32 {
+/// The value that all ways answer, with this number.
+pub fn answered(number: u32, ways: &mut [Way]) -> u32 {
     let answers: Vec<Answer> = ways.iter_mut().map(|way| way()).collect();
-    assert!(answers[0].number == 0, "the call is accepted");
+    assert!(answers[0].number == number, "the call is answered with {number}");
     assert!(
         answers.iter().all(|answer| *answer == answers[0]),
         "all answer the same"
@@ -33,9 +33,9 @@ pub fn answered(ways: &mut [Way]) -> u32 {
     answers[0].value
 }
 
-/// The value that all ways answer, and the median time of each over runs taken in turn.
-pub fn measured(mut ways: Vec<Way>) -> (u32, Vec<f64>) {
-    let value = answered(&mut ways);
+/// The value that all ways answer, with this number, and the median time of each over runs taken in turn.
+pub fn measured(number: u32, mut ways: Vec<Way>) -> (u32, Vec<f64>) {
+    let value = answered(number, &mut ways);
     let mut times = vec![Vec::new(); ways.len()];
     for _ in 0..RUNS {
         for (way, times) in ways.iter_mut().zip(&mut times) {

@@ -42,9 +42,20 @@ pub fn bytes(records: &[Record]) -> Vec<u8> {
     log
 }
 
-/// Another write to the first share, at the last stamp, under a key that no record of so many shares has.
-pub fn one_more(records: &[Record]) -> Record {
-    (last_stamp(records), WRITTEN, vec![0, records.len() as u32])
+/// Another write to the first share, at the last stamp, under a key.
+pub fn one_more(records: &[Record], key: u32) -> Record {
+    (last_stamp(records), WRITTEN, vec![0, key])
+}
+
+/// A key that no write to so many shares has.
+pub fn new_key(records: &[Record]) -> u32 {
+    records.len() as u32
+}
+
+/// The keys of all writes, the oldest first.
+pub fn keys(records: &[Record]) -> Vec<u32> {
+    let writes = records.iter().filter(|record| record.1 == WRITTEN);
+    writes.map(|record| record.2[1]).collect()
 }
 
 const CHAINS: u32 = 4096;

@@ -192,6 +192,7 @@ log_cases =
     ∷ logged (s_at 1 ++ event 0 2 (8 ∷ [])) 0
     ∷ logged (s_at 1 ++ s_at 2) 9
     ∷ logged (s_at 1 ++ e_at 2 ++ s_at 3) 9
+    ∷ logged (s_at 1 ++ s_at 2 ++ s_at 3) 9
     ∷ logged (event 1 1 (7 ∷ 5 ∷ []) ++ event 2 1 (7 ∷ 5 ∷ [])) 0
     ∷ logged (event 1 1 (7 ∷ 5 ∷ []) ++ event 1 1 (8 ∷ 5 ∷ [])) 9
     ∷ logged (event 1 1 (7 ∷ 5 ∷ []) ++ event 1 1 (7 ∷ 6 ∷ [])) 0
@@ -228,6 +229,7 @@ append_cases =
     ∷ case (appended (s_at 4)) (gives 13 0 buffer)
     ∷ case (appended (s_at 2)) (gives 12 0 buffer)
     ∷ case (append value_width good (s_at 3 ++ e_at 4 ++ rest 9) 22 (s_at 4)) (gives 13 0 (s_at 3 ++ e_at 4 ++ rest 9))
+    ∷ case (append value_width good (s_at 3 ++ e_at 4 ++ rest 13) 22 (event 1 5 (7 ∷ 4 ∷ []))) (gives 13 0 (s_at 3 ++ e_at 4 ++ rest 13))
     ∷ case (append value_width good (s_at 3 ++ rest 13) 9 (event 1 3 (7 ∷ 7 ∷ []))) (gives 0 22 (s_at 3 ++ event 1 3 (7 ∷ 7 ∷ [])))
     -- C3: 14 comes last: the event has to fit the buffer; a repeat that doesn't fit is 13
     ∷ case (append value_width good (s_at 3 ++ rest 9) 9 (event 0 3 (8 ∷ []))) (gives 0 18 (s_at 3 ++ event 0 3 (8 ∷ [])))
