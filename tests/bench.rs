@@ -165,9 +165,10 @@ fn checks_and_appends() {
     });
 }
 
-/// Calls 2 and 3 on a full log whose last write, or whose event, has a new key, the newest of the keys before it, or the oldest.
+/// Calls 2 and 3 on a full log whose last write, or whose event, has a new key, the newest key before it, or the oldest.
 fn repeated_keys() {
-    let title = "Check log and append by the key of the last write; against a new key.";
+    let title = "Check log and append, by the key of a full log's last write or of the event: a new one, \
+                 the newest one again, or the oldest.";
     head(title, CHECK, &["second"], "against new");
     let terms = shares::sample();
     let full = shares(LOG_LIMIT / SHARE);
@@ -175,16 +176,13 @@ fn repeated_keys() {
     let keys = shares::keys(older);
     let (newest, oldest) = (keys[keys.len() - 1], keys[0]);
 
-    let before = accepted("check log, a new key", &terms).check_line(&full, &[]);
-    for (name, key) in [
-        ("check log, the newest key", newest),
-        ("check log, the oldest key", oldest),
-    ] {
+    let before = accepted("check log, new key", &terms).check_line(&full, &[]);
+    for (name, key) in [("check log, newest key", newest), ("check log, oldest key", oldest)] {
         let again = (last.0, WRITTEN, vec![last.2[0], key]);
         refused(name, KEY_REPEATS, &terms).check_line(&[older, &[again]].concat(), &before);
     }
-    let before = accepted("append, a new key", &terms).append_line(older, shares::new_key(older), &[]);
-    for (name, key) in [("append, the newest key", newest), ("append, the oldest key", oldest)] {
+    let before = accepted("append, new key", &terms).append_line(older, shares::new_key(older), &[]);
+    for (name, key) in [("append, newest key", newest), ("append, oldest key", oldest)] {
         refused(name, KEY_PRESENT, &terms).append_line(older, key, &before);
     }
 }
