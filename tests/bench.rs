@@ -173,17 +173,18 @@ fn repeated_keys() {
     let terms = shares::sample();
     let full = shares(LOG_LIMIT / SHARE);
     let (last, older) = full.split_last().expect("a full log has records");
+    assert!(last.1 == WRITTEN, "the last record is a write");
     let keys = shares::keys(older);
     let (newest, oldest) = (keys[keys.len() - 1], keys[0]);
 
     let before = accepted("check log, new key", &terms).check_line(&full, &[]);
     for (name, key) in [("check log, newest key", newest), ("check log, oldest key", oldest)] {
         let again = (last.0, WRITTEN, vec![last.2[0], key]);
-        refused(name, KEY_REPEATS, &terms).check_line(&[older, &[again]].concat(), &before);
+        answering(name, KEY_REPEATS, &terms).check_line(&[older, &[again]].concat(), &before);
     }
     let before = accepted("append, new key", &terms).append_line(older, shares::new_key(older), &[]);
     for (name, key) in [("append, newest key", newest), ("append, oldest key", oldest)] {
-        refused(name, KEY_PRESENT, &terms).append_line(older, key, &before);
+        answering(name, KEY_PRESENT, &terms).append_line(older, key, &before);
     }
 }
 
@@ -195,10 +196,10 @@ struct Call<'a> {
 }
 
 fn accepted<'a>(name: &'a str, terms: &'a [u8]) -> Call<'a> {
-    refused(name, ACCEPTED, terms)
+    answering(name, ACCEPTED, terms)
 }
 
-fn refused<'a>(name: &'a str, number: u32, terms: &'a [u8]) -> Call<'a> {
+fn answering<'a>(name: &'a str, number: u32, terms: &'a [u8]) -> Call<'a> {
     Call { name, terms, number }
 }
 
