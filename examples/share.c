@@ -1,6 +1,6 @@
 /*
  * The sample share. Its terms are checked, four events are appended to an empty log, and a report is printed; then one event is refused and one
- * accepted, and a later report is printed, in which the first one's rows stand again. In the folder of crates.txt:
+ * accepted, and a later report is printed, in which the first one's rows stand again; then an event arrives late. In the folder of crates.txt:
  *
  *     examples/archive
  *     gcc -std=c99 -Wall -Wextra -Werror -pedantic -Iinclude examples/share.c target/staticlib/libservice.a -o target/share
@@ -34,8 +34,8 @@ static const uint8_t shared_at_10[] = {0, 10, 0, 0, 0, 7, 0, 0, 0, 3, 0, 0, 0, 5
 static const uint8_t written_at_20[] = {2, 20, 0, 0, 0, 5, 0, 0, 0, 1, 0, 0, 0};
 static const uint8_t revoked_at_30[] = {1, 30, 0, 0, 0, 5, 0, 0, 0};
 static const uint8_t written_at_45[] = {2, 45, 0, 0, 0, 5, 0, 0, 0, 2, 0, 0, 0};
-static const uint8_t another_at_44[] = {2, 44, 0, 0, 0, 5, 0, 0, 0, 3, 0, 0, 0};
 static const uint8_t another_at_45[] = {2, 45, 0, 0, 0, 5, 0, 0, 0, 3, 0, 0, 0};
+static const uint8_t late_at_44[] = {2, 44, 0, 0, 0, 5, 0, 0, 0, 4, 0, 0, 0};
 
 static uint8_t buffer[128];
 static uint8_t page[16 * AGREEMENTS_ROW_LENGTH];
@@ -102,15 +102,21 @@ int main(void)
     accepted("log", agreements_check_log(terms, sizeof terms, buffer, sizeof buffer, used));
     print_report(used, 45);
 
-    /* Stamped before the last record: refused, and the used length goes on as it is. */
-    answer = append(used, another_at_44, sizeof another_at_44);
-    expect(AGREEMENTS_STAMP_TOO_LOW, "another write at 44", answer);
-    printf("another write at 44: refused %u, used length %lu\n", (unsigned)agreements_number(answer), (unsigned long)used);
+    /* Its kind and key are in the log: refused, and the used length goes on as it is. */
+    answer = append(used, written_at_45, sizeof written_at_45);
+    expect(AGREEMENTS_KEY_PRESENT, "the write at 45 again", answer);
+    printf("the write at 45 again: refused %u, used length %lu\n", (unsigned)agreements_number(answer), (unsigned long)used);
 
     used = accepted("another write at 45", append(used, another_at_45, sizeof another_at_45));
     printf("another write at 45: used length %lu\n", (unsigned long)used);
 
     /* No accepted event was stamped before 45. So the report at 45 lasts: its rows are those of this one that are timed before 45. */
+    print_report(used, 46);
+
+    /* A late event is accepted too. It is stamped before 46, so the report at 46 does not last: this is now the earliest write after the
+     * revocation. */
+    used = accepted("a late write at 44", append(used, late_at_44, sizeof late_at_44));
+    printf("a late write at 44: used length %lu\n", (unsigned long)used);
     print_report(used, 46);
     return 0;
 }

@@ -25,7 +25,7 @@
  * are counted before they are written.
  *
  * Records are looked up by a hash of their values, which is no secret. Whoever picks values with equal hashes makes each lookup walk through
- * most values of the log: on full logs made so under the sample's terms a report and a check took 40 to 140 times as long.
+ * most values of the log: on full logs made so under the sample's terms a report and a check took 40 to 160 times as long.
  *
  * A stage that a clause cites is worked out anew for each citation and each record that matches, and so is each stage that this one cites
  * in turn. So the cost multiplies along a chain of citations, and a report under accepted terms can take very long. For a log of one record
@@ -79,15 +79,15 @@ enum agreements_refusal {
     /* every call but check terms, of the log */
     AGREEMENTS_USED_TOO_LONG = 6, /* the used length is over 32,768 or over the buffer's length */
     AGREEMENTS_BROKEN_RECORD = 7, /* a record is cut short, of an undeclared kind, or stamped above 2,147,483,647 */
-    AGREEMENTS_STAMP_FALLS = 8,   /* a stamp is below the one before it */
-    AGREEMENTS_KEY_REPEATS = 9,   /* a record has the kind and key of an earlier one */
+    AGREEMENTS_STAMP_FALLS = 8,   /* never given since stamps may stand in any order; the number stays reserved */
+    AGREEMENTS_KEY_REPEATS = 9,   /* a record has the kind and key of a record before it in the log */
 
     /* report */
     AGREEMENTS_PAGE_TOO_SHORT = 10, /* the page has less than 18 bytes for each row */
 
     /* append */
     AGREEMENTS_NOT_ONE_RECORD = 11, /* the event is not exactly one record, as in 7 */
-    AGREEMENTS_STAMP_TOO_LOW = 12,  /* its stamp is below that of the last record */
+    AGREEMENTS_STAMP_TOO_LOW = 12,  /* never given, as 8 */
     AGREEMENTS_KEY_PRESENT = 13,    /* the log has a record of its kind and key */
     AGREEMENTS_NO_ROOM = 14,        /* it would end past the buffer or past 32,768 bytes */
 
@@ -111,12 +111,13 @@ static inline uint32_t agreements_value(uint64_t answer)
 /* Call 1: whether bytes are terms. */
 uint64_t agreements_check_terms(const uint8_t *terms, size_t terms_length);
 
-/* Call 2: whether the first used bytes of a buffer are a log under terms. */
+/* Call 2: whether the first used bytes of a buffer are a log under terms: records in order of arrival, with stamps in any order. */
 uint64_t agreements_check_log(const uint8_t *terms, size_t terms_length, const uint8_t *log, size_t log_length, size_t used);
 
 /*
  * Call 3: puts the bytes of an event, one record, right after the used ones and changes no other byte. The value is the new used length.
- * With a refusal no byte changes, and the used length stays what it was; ignore the value.
+ * The event's stamp may be below those of records in the log. With a refusal no byte changes, and the used length stays what it was; ignore
+ * the value.
  */
 uint64_t agreements_append(const uint8_t *terms, size_t terms_length, uint8_t *log, size_t log_length, size_t used,
                            const uint8_t *event, size_t event_length);
@@ -129,7 +130,9 @@ uint64_t agreements_append(const uint8_t *terms, size_t terms_length, uint8_t *l
  * A report lasts. Let it be accepted; let appends follow it, accepted or refused, and then a later report, accepted and at the same moment or
  * after it. Let all of them be given the same terms, the same log buffer, and the used length that the last accepted append returned, at first
  * that of the report; let nobody else write to terms or log. If no accepted event is stamped before the first report's moment, then the later
- * report has the first one's rows and no others, once those timed at the first one's moment or later are struck out.
+ * report has the first one's rows and no others, once those timed at the first one's moment or later are struck out. An accepted event
+ * that is stamped before that moment may add rows timed before the moment, take some away or change their times: after such an event ask
+ * for a new report.
  */
 uint64_t agreements_report(const uint8_t *terms, size_t terms_length, const uint8_t *log, size_t log_length, size_t used,
                            uint32_t moment, uint8_t *page, size_t page_length);

@@ -5,15 +5,15 @@ use mathlib.Core.Path.{◌≡◌, refl, ap, sym, ◌∙◌}
 use mathlib.Core.List.{List, [], ◌∷◌}
 use lib.ListN.{get_or}
 use Rattle.calls.specs.declared.Refusal.{Refusal}
-use Rattle.calls.specs.declared.Refusal.TheVariants.{TermsTooLong, BrokenGrammar, FieldOutOfRange, CitationTooHigh, NothingShared, UsedTooLong, BrokenRecord, StampFalls, KeyRepeats, PageTooShort, NotOneRecord, StampTooLow, KeyPresent, NoRoom, NoSchema, NoSubject}
+use Rattle.calls.specs.declared.Refusal.TheVariants.{TermsTooLong, BrokenGrammar, FieldOutOfRange, CitationTooHigh, NothingShared, UsedTooLong, BrokenRecord, KeyRepeats, PageTooShort, NotOneRecord, KeyPresent, NoRoom, NoSchema, NoSubject}
 use Rattle.std.specs.Prelude.{Result, Ok, Err}
 use Rattle.meaning.specs.declared.Entries.{Entries}
 use Rattle.calls.specs.Answers.{refusal_number, Answer, StandingAnswer, checked_answer, counted_answer, standing_answer, packed, unpacked}
 
--- the refusals in the order of the table
+-- the refusals by their numbers; at 8 and 12, which none has, the one before
 refusals : List Refusal
-refusals = TermsTooLong ∷ BrokenGrammar ∷ FieldOutOfRange ∷ CitationTooHigh ∷ NothingShared ∷ UsedTooLong ∷ BrokenRecord ∷ StampFalls ∷ KeyRepeats
-    ∷ PageTooShort ∷ NotOneRecord ∷ StampTooLow ∷ KeyPresent ∷ NoRoom ∷ NoSchema ∷ NoSubject ∷ []
+refusals = TermsTooLong ∷ BrokenGrammar ∷ FieldOutOfRange ∷ CitationTooHigh ∷ NothingShared ∷ UsedTooLong ∷ BrokenRecord ∷ BrokenRecord ∷ KeyRepeats
+    ∷ PageTooShort ∷ NotOneRecord ∷ NotOneRecord ∷ KeyPresent ∷ NoRoom ∷ NoSchema ∷ NoSubject ∷ []
 
 refusal-back : (x : Refusal) → (1 ≤ refusal_number x) × (get_or refusals (refusal_number x - 1) TermsTooLong ≡ x)
 unfolding refusals
@@ -24,11 +24,9 @@ refusal-back CitationTooHigh = (omega arith, refl)
 refusal-back NothingShared = (omega arith, refl)
 refusal-back UsedTooLong = (omega arith, refl)
 refusal-back BrokenRecord = (omega arith, refl)
-refusal-back StampFalls = (omega arith, refl)
 refusal-back KeyRepeats = (omega arith, refl)
 refusal-back PageTooShort = (omega arith, refl)
 refusal-back NotOneRecord = (omega arith, refl)
-refusal-back StampTooLow = (omega arith, refl)
 refusal-back KeyPresent = (omega arith, refl)
 refusal-back NoRoom = (omega arith, refl)
 refusal-back NoSchema = (omega arith, refl)
@@ -76,8 +74,8 @@ packed-split a h =
 
 -- what the library service gets in each case
 pub packed-cases : packed (checked_answer {A = Unit {0}} (Ok tt)) ∷ packed (checked_answer {A = Unit {0}} (Err CitationTooHigh))
-    ∷ packed (counted_answer (Ok 69)) ∷ packed (counted_answer (Err StampTooLow))
+    ∷ packed (counted_answer (Ok 69)) ∷ packed (counted_answer (Err KeyPresent))
     ∷ packed (counted_answer (Ok 3)) ∷ packed (counted_answer (Err PageTooShort)) ∷ []
-    ≡ 0 ∷ 17179869184 ∷ 69 ∷ 51539607552 ∷ 3 ∷ 42949672960 ∷ []
+    ≡ 0 ∷ 17179869184 ∷ 69 ∷ 55834574848 ∷ 3 ∷ 42949672960 ∷ []
 unfolding checked_answer counted_answer packed
 packed-cases = refl

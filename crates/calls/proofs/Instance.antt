@@ -1,6 +1,6 @@
--- Demand 3 speaks of something: instances on the sample share that compute. A report at 45 is given; an append stamped 44 is refused, one
--- stamped 45 accepted; the report at 46 has one row more, which is struck. And under a count: a report at 131 has the row that the count settled
--- at 130; one more write, stamped 131, comes too late to change it. Assumes nothing.
+-- Demand 3 speaks of something: instances on the sample share that compute. A report at 45 is given, of a log whose last record is stamped 60; an
+-- append stamped 44 is refused, one stamped 45, below the last record, accepted; the report at 46 has one row more, which is struck. And under a
+-- count: a report at 131 has the row that the count settled at 130; one more write, stamped 131, comes too late to change it. Assumes nothing.
 use Prim.Native.Nat.{ℕ}
 use native.Mathlib.Omega.{arith}
 use mathlib.Core.Path.{◌≡◌, refl}
@@ -10,28 +10,28 @@ use Rattle.format.specs.Records.{value_width}
 use Rattle.calls.specs.Calls.{append}
 use Rattle.calls.specs.Lasting.{Accepted, HeldLog, after_appends, NoneBefore, report_on, rows_given, rows_left, bytes_before}
 use Rattle.calls.proofs.Computes.{computes}
-use Rattle.calls.proofs.Sample.{terms, counting, log, writing, rest, row}
+use Rattle.calls.proofs.Sample.{terms, counting, start, log, writing, rest, row}
 
--- the sample log in a buffer of 80 bytes
+-- the sample log with its last write at 60, in a buffer of 80 bytes
 abbrev pub held : HeldLog
-held = record { buffer = log 45 ++ rest 24; used = 56 }
+held = record { buffer = log 60 ++ rest 24; used = 56 }
 
--- Written (5, 3) at 44, then at 45
+-- Written (5, 2) again, at 44, then Written (5, 3) at 45
 abbrev events : List (List ℕ)
-events = writing 44 3 ∷ writing 45 3 ∷ []
+events = writing 44 2 ∷ writing 45 3 ∷ []
 
 -- the held log after both
 abbrev after : HeldLog
 after = after_appends value_width terms held events
 
--- the premises of demand 3 hold, the first append is refused with 12, the second is accepted, and a row is struck
+-- the premises of demand 3 hold, the first append is refused with 13, the second is accepted, and a row is struck
 pub record Instance : Type 0 where
   -- the report at 45
   pub given : Accepted (report_on value_width terms held 45 (rest 54))
   -- one refused, one stamped 45
   pub none_before : NoneBefore value_width terms 45 held events
   -- the refused one
-  pub refused : (append value_width terms held.buffer held.used (writing 44 3)).answer.number ≡ 12
+  pub refused : (append value_width terms held.buffer held.used (writing 44 2)).answer.number ≡ 13
   -- the used length afterwards
   pub used : after.used ≡ 69
   -- the report at 46
@@ -41,9 +41,9 @@ pub record Instance : Type 0 where
   -- which are the rows given at 45
   pub rows : (flatten (rows_left value_width 45 (report_on value_width terms after 46 (rest 60))) ≡ row 1 10 ++ row 2 30) × (rows_given value_width (report_on value_width terms held 45 (rest 54)) ≡ row 1 10 ++ row 2 30)
 
--- two logs that differ from 45 on, neither an extension of the other
+-- two logs that differ from 45 on, neither an extension of the other; in this one the write at 129 is the first record
 abbrev pub other : HeldLog
-other = record { buffer = log 129; used = 56 }
+other = record { buffer = writing 129 2 ++ start; used = 56 }
 
 -- the premises of the second half hold too, and the reports have rows
 pub record AlikeInstance : Type 0 where

@@ -4,6 +4,7 @@ pub mod RefusalLaws
 pub mod WriteLaws
 pub mod AcceptedLaws
 pub mod StandingLaws
+pub mod Arrival
 pub mod PageLaws
 pub mod Lasts
 pub mod Computes

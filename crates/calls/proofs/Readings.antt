@@ -1,8 +1,8 @@
 -- Words of document 01 that could be read in a second way and that its sample leaves open, as far as they are about calls: each case is a call
--- beside the outcome that the words give, closed by computation. B3 and C1 to C6 number these readings. Beside them stand refusals 1 and 6 to 16 with
--- their nearest accepted neighbours, their order, and what calls leave. The lists of the layers below are over data and over the conditions of
--- single refusals; the first two parts here join them, from bytes to rows, the second of them for counts (document 02, wish 1). The expected outcomes are
--- written from the documents. Assumes nothing.
+-- beside the outcome that the words give, closed by computation. B3 and C1 to C6 number these readings. Beside them stand refusals 1, 6, 7, 9 to
+-- 11 and 13 to 16 with their nearest accepted neighbours, their order, stamps in any order (document 02, wish 3), and what calls leave. The lists
+-- of the layers below are over data and over the conditions of single refusals; the first two parts here join them, from bytes to rows, the second
+-- of them for counts (document 02, wish 1). The expected outcomes are written from the documents. Assumes nothing.
 use Prim.Native.Nat.{ℕ, suc, ◌-◌, ◌*◌}
 use mathlib.Core.Path.{refl}
 use mathlib.Core.List.{List, [], ◌∷◌, ◌++◌, flatten}
@@ -184,10 +184,10 @@ log_cases =
     ∷ logged (event 3 0 (7 ∷ [])) 7
     ∷ logged (s_at 2147483647) 0
     ∷ logged (s_at 2147483648) 7
-    -- 8: a stamp may be equal, not below
+    -- a stamp may be equal to the one before it, or below: 8 is never given (document 02, wish 3)
     ∷ logged (s_at 5 ++ e_at 5) 0
-    ∷ logged (s_at 5 ++ e_at 4) 8
-    ∷ logged (s_at 5 ++ e_at 6 ++ e_at 5) 8
+    ∷ logged (s_at 5 ++ e_at 4) 0
+    ∷ logged (s_at 5 ++ e_at 6 ++ e_at 5) 0
     -- 9: one kind and one key; the key alone decides, and only within a kind
     ∷ logged (s_at 1 ++ event 0 2 (8 ∷ [])) 0
     ∷ logged (s_at 1 ++ s_at 2) 9
@@ -196,10 +196,11 @@ log_cases =
     ∷ logged (event 1 1 (7 ∷ 5 ∷ []) ++ event 2 1 (7 ∷ 5 ∷ [])) 0
     ∷ logged (event 1 1 (7 ∷ 5 ∷ []) ++ event 1 1 (8 ∷ 5 ∷ [])) 9
     ∷ logged (event 1 1 (7 ∷ 5 ∷ []) ++ event 1 1 (7 ∷ 6 ∷ [])) 0
-    -- C1: 7, 8 and 9 each over the whole log, the lowest first
+    ∷ logged (event 1 20 (7 ∷ 5 ∷ []) ++ event 1 10 (8 ∷ 5 ∷ [])) 9
+    -- C1: 7 and 9 each over the whole log, the lower first, whatever the stamps are
     ∷ logged (s_at 5 ++ e_at 4 ++ event 3 6 (7 ∷ [])) 7
     ∷ logged (s_at 5 ++ s_at 5 ++ event 3 6 (7 ∷ [])) 7
-    ∷ logged (s_at 5 ++ s_at 5 ++ e_at 4) 8
+    ∷ logged (s_at 5 ++ s_at 5 ++ e_at 4) 9
     -- the faults of terms come before those of the log
     ∷ case (told (check_log value_width (kind 0 0 0 ++ plain_schema) (s_at 0) 10)) (gives 3 0 [])
     ∷ []
@@ -213,9 +214,9 @@ appended bytes = append value_width good buffer 9 bytes
 
 abbrev append_cases : List (Case Outcome)
 append_cases =
-    -- C3: an equal stamp is accepted; a lower one not, but on an empty log
+    -- C3: an event's stamp may be equal to the last one or below the first: 12 is never given (document 02, wish 3)
     case (appended (event 0 3 (8 ∷ []))) (gives 0 18 (s_at 3 ++ event 0 3 (8 ∷ []) ++ rest 1))
-    ∷ case (appended (event 0 2 (8 ∷ []))) (gives 12 0 buffer)
+    ∷ case (appended (event 0 2 (8 ∷ []))) (gives 0 18 (s_at 3 ++ event 0 2 (8 ∷ []) ++ rest 1))
     ∷ case (append value_width good buffer 0 (event 0 2 (8 ∷ []))) (gives 0 9 (event 0 2 (8 ∷ []) ++ rest 10))
     -- C3: what 7 turns away in a log, 11 turns away in an event: none, cut short, longer, two records, undeclared kind, stamped too high
     ∷ case (appended []) (gives 11 0 buffer)
@@ -225,9 +226,9 @@ append_cases =
     ∷ case (appended (event 3 3 (8 ∷ []))) (gives 11 0 buffer)
     ∷ case (appended (event 0 2147483648 (8 ∷ []))) (gives 11 0 buffer)
     ∷ case (appended (event 0 2147483647 (8 ∷ []))) (gives 0 18 (s_at 3 ++ event 0 2147483647 (8 ∷ []) ++ rest 1))
-    -- C3: 13 by kind and key, anywhere in the log; 12 comes before it
+    -- C3: 13 by kind and key, anywhere in the log, whatever the stamp
     ∷ case (appended (s_at 4)) (gives 13 0 buffer)
-    ∷ case (appended (s_at 2)) (gives 12 0 buffer)
+    ∷ case (appended (s_at 2)) (gives 13 0 buffer)
     ∷ case (append value_width good (s_at 3 ++ e_at 4 ++ rest 9) 22 (s_at 4)) (gives 13 0 (s_at 3 ++ e_at 4 ++ rest 9))
     ∷ case (append value_width good (s_at 3 ++ e_at 4 ++ rest 13) 22 (event 1 5 (7 ∷ 4 ∷ []))) (gives 13 0 (s_at 3 ++ e_at 4 ++ rest 13))
     ∷ case (append value_width good (s_at 3 ++ rest 13) 9 (event 1 3 (7 ∷ 7 ∷ []))) (gives 0 22 (s_at 3 ++ event 1 3 (7 ∷ 7 ∷ [])))
@@ -236,7 +237,8 @@ append_cases =
     ∷ case (append value_width good (s_at 3 ++ rest 8) 9 (event 0 3 (8 ∷ []))) (gives 14 0 (s_at 3 ++ rest 8))
     ∷ case (append value_width good (s_at 3) 9 (s_at 3)) (gives 13 0 (s_at 3))
     -- C4: the faults of terms and log come before the event's
-    ∷ case (append value_width good (s_at 3 ++ e_at 2 ++ rest 9) 22 []) (gives 8 0 (s_at 3 ++ e_at 2 ++ rest 9))
+    ∷ case (append value_width good (s_at 3 ++ s_at 2 ++ rest 9) 18 []) (gives 9 0 (s_at 3 ++ s_at 2 ++ rest 9))
+    ∷ case (append value_width good (s_at 3 ++ e_at 2 ++ rest 9) 22 []) (gives 11 0 (s_at 3 ++ e_at 2 ++ rest 9))
     ∷ case (append value_width good (s_at 3) 10 []) (gives 6 0 (s_at 3))
     ∷ case (append value_width (good ++ (0 ∷ [])) (s_at 3) 9 []) (gives 2 0 (s_at 3))
     ∷ []
@@ -277,7 +279,7 @@ call_cases =
     ∷ case (report value_width (clauses always waiting nothing) (s_at 3) 9 4 (rest 18)) (gives 0 1 (row 1 3))
     ∷ case (report value_width good (s_at 3) 9 3 []) (gives 0 0 [])
     -- the faults of terms and log come before 10
-    ∷ case (report value_width good (s_at 3 ++ e_at 2) 22 4 []) (gives 8 0 [])
+    ∷ case (report value_width good (s_at 3 ++ s_at 2) 18 4 []) (gives 9 0 [])
     ∷ case (report value_width (good ++ (0 ∷ [])) (s_at 3) 10 4 []) (gives 2 0 [])
     -- a standing has the times that the rows would carry, of its own schema and subject
     ∷ case (standing_at 0 7 6) (stands (At 0) (At 5) Never Never (At 5))
@@ -295,6 +297,38 @@ call_cases =
     ∷ case (standing_at 0 8 5) (stands (At 4) Never Never Never Never)
     ∷ case (shown (standing value_width (clauses nothing always always) (s_at 4) 9 0 7 5)) (stands Never Never Never Never Never)
     ∷ case (shown (standing value_width good (s_at 4) 10 1 7 5)) (not_standing 6)
+    ∷ []
+
+-- the sample's kinds: Shared of a share, with library 7, owner 3 and player 9; Revoked of the share 5
+abbrev shared : ℕ → ℕ → List ℕ
+shared t share = event 0 t (7 ∷ 3 ∷ share ∷ 9 ∷ [])
+
+abbrev revoked : ℕ → List ℕ
+revoked t = event 1 t (5 ∷ [])
+
+-- call 4 on the whole of a log, under the sample's terms, on a page of 60 bytes
+abbrev arrived : List ℕ → ℕ → Outcome
+arrived log m = report value_width sample.terms log (length log) m (rest 60)
+
+-- the row of a share at t: created
+abbrev created_row : ℕ → ℕ → List ℕ
+created_row share t = 1 ∷ 0 ∷ word share ++ word 3 ++ word 9 ++ word t
+
+-- records in order of arrival, with stamps in any order, from bytes to rows (document 02, wish 3)
+abbrev arrival_cases : List (Case Outcome)
+arrival_cases =
+    -- the sample log in the reverse order has the sample's rows
+    case (arrived (sample.writing 45 2 ++ revoked 30 ++ shared 10 5) 46) (gives 0 3 (sample.row 1 10 ++ sample.row 2 30 ++ sample.row 5 45 ++ rest 6))
+    -- rows go by place in the log, not by time
+    ∷ case (arrived (shared 40 6 ++ shared 10 5) 46) (gives 0 2 (created_row 6 40 ++ created_row 5 10 ++ rest 24))
+    -- a report at 45, and the one after a write stamped 44 was appended: the case that demand 3 leaves out
+    ∷ case (arrived (sample.log 45) 45) (gives 0 2 (sample.row 1 10 ++ sample.row 2 30 ++ rest 24))
+    ∷ case (arrived (sample.log 45 ++ sample.writing 44 3) 45) (gives 0 3 (sample.row 1 10 ++ sample.row 2 30 ++ sample.row 5 44 ++ rest 6))
+    -- a repeated key, with a lower stamp: in a log, and in an event
+    ∷ case (arrived (sample.writing 20 1 ++ event 2 10 (6 ∷ 1 ∷ [])) 46) (gives 9 0 (rest 60))
+    ∷ case (append value_width sample.terms (sample.log 45 ++ rest 20) 56 (event 2 1 (6 ∷ 2 ∷ []))) (gives 13 0 (sample.log 45 ++ rest 20))
+    -- a standing of a subject that arrives last
+    ∷ case (shown (standing value_width two_norms (e_at 5 ++ event 0 4 (8 ∷ []) ++ s_at 0) 31 0 7 6)) (stands (At 0) (At 5) Never Never (At 5))
     ∷ []
 
 joined_hold : Hold joined_cases
@@ -321,10 +355,14 @@ call_hold : Hold call_cases
 unfolding computes
 call_hold = refl
 
+arrival_hold : Hold arrival_cases
+unfolding computes
+arrival_hold = refl
+
 -- the parts of the second list that are about calls
 abbrev pub parts : List (List (Case Outcome))
-parts = joined_cases ∷ count_cases ∷ terms_cases ∷ log_cases ∷ append_cases ∷ call_cases ∷ []
+parts = joined_cases ∷ count_cases ∷ terms_cases ∷ log_cases ∷ append_cases ∷ call_cases ∷ arrival_cases ∷ []
 
 -- each call gives what the document's words say; the parts are computed one by one, which is quicker than all at once
 pub readings : Hold (flatten parts)
-readings = hold-all parts (joined_hold, (count_hold, (terms_hold, (log_hold, (append_hold, (call_hold, tt))))))
+readings = hold-all parts (joined_hold, (count_hold, (terms_hold, (log_hold, (append_hold, (call_hold, (arrival_hold, tt)))))))

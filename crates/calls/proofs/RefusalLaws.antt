@@ -11,15 +11,15 @@ use mathlib.Core.List.{List, [], ◌∷◌, ◌++◌, Memᴰ}
 use lib.Dec.{ltb}
 use lib.ListN.{length, take}
 use borrow.Author.Tests.{ltb-true}
-use Rattle.calls.specs.declared.Refusal.TheVariants.{TermsTooLong, BrokenGrammar, FieldOutOfRange, CitationTooHigh, NothingShared, UsedTooLong, BrokenRecord, StampFalls, KeyRepeats, PageTooShort, NotOneRecord, StampTooLow, KeyPresent, NoRoom, NoSchema, NoSubject}
+use Rattle.calls.specs.declared.Refusal.TheVariants.{TermsTooLong, BrokenGrammar, FieldOutOfRange, CitationTooHigh, NothingShared, UsedTooLong, BrokenRecord, KeyRepeats, PageTooShort, NotOneRecord, KeyPresent, NoRoom, NoSchema, NoSubject}
 use Rattle.meaning.specs.declared.Entries.{Entries}
 use Rattle.meaning.specs.declared.Row.{Row}
 use Rattle.meaning.specs.Lists.{All}
-use Rattle.meaning.specs.Log.{stamps_fall, key_repeats}
+use Rattle.meaning.specs.Log.{key_repeats}
 use Rattle.format.specs.Grammar.{file_of, breaks_grammar}
 use Rattle.format.specs.Fields.{field_wrong, citation_wrong, unshared_event, terms_of}
 use Rattle.format.specs.Records.{record_from, broken_record, log_of, not_one_record}
-use Rattle.calls.specs.Calls.{Check, refusal, terms_limit, terms_too_long, used_too_long, stamp_too_low, key_present, no_room, page_too_short, no_schema, terms_checks, used_checks, record_checks, log_checks, event_checks, page_checks, rows_of, missing, standing_subject, key_checks, checked, check_terms, check_log, Outcome, unless_refused, append, on_page, report, standing_as, standing}
+use Rattle.calls.specs.Calls.{Check, refusal, terms_limit, terms_too_long, used_too_long, key_present, no_room, page_too_short, no_schema, terms_checks, used_checks, record_checks, log_checks, event_checks, page_checks, rows_of, missing, standing_subject, key_checks, checked, check_terms, check_log, Outcome, unless_refused, append, on_page, report, standing_as, standing}
 use Rattle.calls.specs.Lasting.{Accepted}
 use Rattle.meaning.proofs.ListLaws.{all_append}
 use Rattle.meaning.proofs.MemberLaws.{member-has}
@@ -186,7 +186,7 @@ pub log-numbered : (w : ℕ) (terms log : List ℕ) (used : ℕ) → Numbered (l
 unfolding log_checks used_checks record_checks
 log-numbered w terms log used =
     all_append Positive (terms_checks terms) _ (terms-numbered terms)
-    (refusal-positive UsedTooLong, (refusal-positive BrokenRecord, (refusal-positive StampFalls, (refusal-positive KeyRepeats, tt))))
+    (refusal-positive UsedTooLong, (refusal-positive BrokenRecord, (refusal-positive KeyRepeats, tt)))
 
 -- accepted terms: none of the refusals 1 to 5 holds
 pub record TermsAccepted (terms : List ℕ) : Type 0 where
@@ -201,7 +201,7 @@ pub record TermsAccepted (terms : List ℕ) : Type 0 where
   -- 5: every event shares an attribute with the subject kind
   pub shared : unshared_event (terms_of terms) ≡ false
 
--- an accepted log: nor any of 6 to 9
+-- an accepted log: nor any of 6, 7 and 9
 pub record LogAccepted (w : ℕ) (terms log : List ℕ) (used : ℕ) : Type 0 where
   -- 1 to 5
   pub terms-ok : TermsAccepted terms
@@ -209,19 +209,15 @@ pub record LogAccepted (w : ℕ) (terms log : List ℕ) (used : ℕ) : Type 0 wh
   pub used-fits : used_too_long log used ≡ false
   -- 7: the used bytes are whole records
   pub whole : broken_record w (terms_of terms) (take used log) ≡ false
-  -- 8: no stamp is below the one before
-  pub in_order : stamps_fall (log_of w terms log used) ≡ false
   -- 9: no kind and key stands twice
   pub once : key_repeats (terms_of terms) (log_of w terms log used) ≡ false
 
--- an accepted append: nor any of 11 to 14
+-- an accepted append: nor any of 11, 13 and 14
 pub record AppendAccepted (w : ℕ) (terms log : List ℕ) (used : ℕ) (event : List ℕ) : Type 0 where
-  -- 1 to 9
+  -- 1 to 7 and 9
   pub log-ok : LogAccepted w terms log used
   -- 11: exactly one record
   pub one-record : not_one_record w (terms_of terms) event ≡ false
-  -- 12: not stamped below the last one
-  pub not_earlier : stamp_too_low (record_from w (terms_of terms) event) (log_of w terms log used) ≡ false
   -- 13: of a new kind and key
   pub new : key_present (terms_of terms) (record_from w (terms_of terms) event) (log_of w terms log used) ≡ false
   -- 14: it fits the buffer and the limit
@@ -229,7 +225,7 @@ pub record AppendAccepted (w : ℕ) (terms log : List ℕ) (used : ℕ) (event :
 
 -- an accepted standing: nor 15, 16
 pub record StandingAccepted (w : ℕ) (terms log : List ℕ) (used schema key m : ℕ) : Type 0 where
-  -- 1 to 9
+  -- 1 to 7 and 9
   pub log-ok : LogAccepted w terms log used
   -- 15: the schema is there
   pub schema-there : no_schema (terms_of terms) schema ≡ false
@@ -251,7 +247,7 @@ terms-none terms = (
   λ a. (a.short, (a.grammar, (a.fields, (a.citations, (a.shared, tt))))),
 )
 
--- no check of 1 to 9 holds, exactly if the log is accepted
+-- no check of 1 to 7 and 9 holds, exactly if the log is accepted
 log-none : (w : ℕ) (terms log : List ℕ) (used : ℕ) → NoneHolds (log_checks w terms log used) ↔ LogAccepted w terms log used
 unfolding log_checks used_checks record_checks log_of
 log-none w terms log used =
@@ -260,13 +256,12 @@ log-none w terms log used =
         terms-ok = (terms-none terms).0 h.0;
         used-fits = h.1.0;
         whole = h.1.1.0;
-        in_order = h.1.1.1.0;
-        once = h.1.1.1.1.0;
+        once = h.1.1.1.0;
       },
-      λ a. ((terms-none terms).1 a.terms-ok, (a.used-fits, (a.whole, (a.in_order, (a.once, tt))))),
+      λ a. ((terms-none terms).1 a.terms-ok, (a.used-fits, (a.whole, (a.once, tt)))),
     )
 
--- the refusals of a call that takes terms and log: 1 to 9, then its own
+-- the refusals of a call that takes terms and log: 1 to 7 and 9, then its own
 beyond-log : (w : ℕ) (terms log : List ℕ) (used : ℕ) (own : List Check) → Numbered own
     → (refusal (log_checks w terms log used ++ own) ≡ 0) ↔ (LogAccepted w terms log used × NoneHolds own)
 beyond-log w terms log used own n =
@@ -278,10 +273,16 @@ pub terms-accepted : (terms : List ℕ) → ((check_terms terms).number ≡ 0) �
 unfolding check_terms checked
 terms-accepted terms = Iff.trans (refusal-none (terms_checks terms) (terms-numbered terms)) (terms-none terms)
 
--- call 2 accepts exactly the logs to which none of 1 to 9 applies
+-- call 2 accepts exactly the logs to which none of 1 to 7 and 9 applies
 pub log-accepted : (w : ℕ) (terms log : List ℕ) (used : ℕ) → ((check_log w terms log used).number ≡ 0) ↔ LogAccepted w terms log used
 unfolding check_log checked
 log-accepted w terms log used = Iff.trans (refusal-none (log_checks w terms log used) (log-numbered w terms log used)) (log-none w terms log used)
+
+-- under an accepted log a call's own refusals decide
+pub own-decide : (w : ℕ) (terms log : List ℕ) (used : ℕ) → LogAccepted w terms log used → (own : List Check) → refusal (log_checks w terms log used ++ own) ≡ refusal own
+unfolding check_log checked
+own-decide w terms log used ok own =
+    refusal-behind (log_checks w terms log used) own ((refusal-none (log_checks w terms log used) (log-numbered w terms log used)).0 ((log-accepted w terms log used).1 ok))
 
 -- the number of a call that may write is the refusal's
 refused-number : (n : ℕ) (buffer : List ℕ) (o : Outcome) → Accepted o → (unless_refused n buffer o).answer.number ≡ n
@@ -311,24 +312,24 @@ standing-number w terms log used schema key m = go _ _
     go zero e = refl
     go (suc n) e = refl
 
--- call 3 accepts exactly the events to which none of 1 to 9 and 11 to 14 applies
+-- call 3 accepts exactly the events to which none of 1 to 7, 9, 11, 13 and 14 applies
 pub append-accepted : (w : ℕ) (terms log : List ℕ) (used : ℕ) (event : List ℕ)
     → Accepted (append w terms log used event) ↔ AppendAccepted w terms log used event
 unfolding event_checks
 append-accepted w terms log used event =
-    rw append-number (Iff.trans (beyond-log w terms log used _ (refusal-positive NotOneRecord, (refusal-positive StampTooLow, (refusal-positive KeyPresent, (refusal-positive NoRoom, tt))))) (
-      λ h. record { log-ok = h.0; one-record = h.1.0; not_earlier = h.1.1.0; new = h.1.1.1.0; event_fits = h.1.1.1.1.0 },
-      λ a. (a.log-ok, (a.one-record, (a.not_earlier, (a.new, (a.event_fits, tt))))),
+    rw append-number (Iff.trans (beyond-log w terms log used _ (refusal-positive NotOneRecord, (refusal-positive KeyPresent, (refusal-positive NoRoom, tt)))) (
+      λ h. record { log-ok = h.0; one-record = h.1.0; new = h.1.1.0; event_fits = h.1.1.1.0 },
+      λ a. (a.log-ok, (a.one-record, (a.new, (a.event_fits, tt)))),
     ))
 
--- call 4 accepts exactly the reports to which none of 1 to 10 applies
+-- call 4 accepts exactly the reports to which none of 1 to 7, 9 and 10 applies
 pub report-accepted : (w : ℕ) (terms log : List ℕ) (used m : ℕ) (page : List ℕ) → Accepted (report w terms log used m page)
     ↔ (LogAccepted w terms log used × (page_too_short w (rows_of w terms log used m) page ≡ false))
 unfolding page_checks
 report-accepted w terms log used m page =
     rw report-number (Iff.trans (beyond-log w terms log used _ (refusal-positive PageTooShort, tt)) (λ h. (h.0, h.1.0), λ a. (a.0, (a.1, tt))))
 
--- call 5 accepts exactly the questions to which none of 1 to 9, 15 and 16 applies
+-- call 5 accepts exactly the questions to which none of 1 to 7, 9, 15 and 16 applies
 pub standing-accepted : (w : ℕ) (terms log : List ℕ) (used schema key m : ℕ) → ((standing w terms log used schema key m).number ≡ 0)
     ↔ StandingAccepted w terms log used schema key m
 unfolding key_checks

@@ -97,8 +97,8 @@ cases =
     -- H: three rows need 54 bytes; one byte less is refused, and the page stays
     ∷ case (report value_width terms (log 45) 56 46 (rest 53)) (gives 10 0 (rest 53))
     ∷ case (report value_width terms (log 45) 56 46 (rest 54)) (gives 0 3 (row 1 10 ++ (row 2 30 ++ row 5 45)))
-    -- I: Written (5, 3) stamped 44 is refused with 12, every byte as before; stamped 45 it makes the log 69 bytes long
-    ∷ case (append value_width terms (log 45 ++ rest 20) 56 (writing 44 3)) (gives 12 0 (log 45 ++ rest 20))
+    -- I: Written (5, 3) makes the log 69 bytes long, stamped 44, below the last record (document 02, wish 3), as well as stamped 45
+    ∷ case (append value_width terms (log 45 ++ rest 20) 56 (writing 44 3)) (gives 0 69 (log 45 ++ (writing 44 3 ++ rest 7)))
     ∷ case (append value_width terms (log 45 ++ rest 20) 56 (writing 45 3)) (gives 0 69 (log 45 ++ (writing 45 3 ++ rest 7)))
     -- J: the consequent may cite its own schema's detached, and not its discharged
     ∷ case (told (check_terms (stage_cited 2))) (gives 0 0 [])

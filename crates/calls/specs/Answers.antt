@@ -1,11 +1,11 @@
 -- What each case of the answers stands for: document 01, 'Calls', the table and the paragraph after it. Assumes nothing: these are definitions.
 use Rattle.std.specs.Prelude.{ℕ, ◌+◌, ◌*◌, ◌/◌, ◌%◌, Result, Ok, Err}
 use Rattle.calls.specs.declared.Refusal.{Refusal}
-use Rattle.calls.specs.declared.Refusal.TheVariants.{TermsTooLong, BrokenGrammar, FieldOutOfRange, CitationTooHigh, NothingShared, UsedTooLong, BrokenRecord, StampFalls, KeyRepeats, PageTooShort, NotOneRecord, StampTooLow, KeyPresent, NoRoom, NoSchema, NoSubject}
+use Rattle.calls.specs.declared.Refusal.TheVariants.{TermsTooLong, BrokenGrammar, FieldOutOfRange, CitationTooHigh, NothingShared, UsedTooLong, BrokenRecord, KeyRepeats, PageTooShort, NotOneRecord, KeyPresent, NoRoom, NoSchema, NoSubject}
 use Rattle.meaning.specs.declared.Entries.{Entries}
 use Rattle.meaning.specs.Rows.{not_yet}
 
--- the table's number for each refusal (table, first column); none has 0
+-- the table's number for each refusal (table, first column); none has 0, 8 or 12; 8 and 12 are never given (document 02, wish 3)
 abbrev pub refusal_number : Refusal → ℕ
 refusal_number TermsTooLong = 1
 refusal_number BrokenGrammar = 2
@@ -14,11 +14,9 @@ refusal_number CitationTooHigh = 4
 refusal_number NothingShared = 5
 refusal_number UsedTooLong = 6
 refusal_number BrokenRecord = 7
-refusal_number StampFalls = 8
 refusal_number KeyRepeats = 9
 refusal_number PageTooShort = 10
 refusal_number NotOneRecord = 11
-refusal_number StampTooLow = 12
 refusal_number KeyPresent = 13
 refusal_number NoRoom = 14
 refusal_number NoSchema = 15

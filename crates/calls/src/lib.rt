@@ -6,7 +6,7 @@ ghost use Rattle.calls.specs.Answers.{refusal_number};
 
 use std::fmt;
 
-// Why a call is refused, with the table's number, which is its order.
+// Why a call is refused, with the table's number, which is its order. 8 and 12 are never given (document 02, wish 3).
 #[derive(Clone, Copy, Debug, PartialEq, Eq)]
 pub enum Refusal {
     TermsTooLong = 1,
@@ -16,11 +16,9 @@ pub enum Refusal {
     NothingShared = 5,
     UsedTooLong = 6,
     BrokenRecord = 7,
-    StampFalls = 8,
     KeyRepeats = 9,
     PageTooShort = 10,
     NotOneRecord = 11,
-    StampTooLow = 12,
     KeyPresent = 13,
     NoRoom = 14,
     NoSchema = 15,

@@ -101,7 +101,7 @@ module _ (terms log : List ℕ) (k subject : ℕ) where
         unfolding under leaf_occurrence once_known later_of
         occurs-no-upper p = rw ((known_at x.lower _ lower since).0, known-never x.upper _ upper p)
 
-        -- it occurs at the first happening in its window, but not before both are known
+        -- it occurs at the earliest happening in its window, but not before both are known
         pub occurs : {to : Known} {f a b : Time} → s ≡ Some to → f ≡ under first_within terms log k subject from.edge to.edge x.event
             → a ≡ later_of (At to.since) f → b ≡ later_of (At from.since) a → b ≡ under leaf_occurrence terms log k subject x
         unfolding under leaf_occurrence once_known

@@ -1,12 +1,13 @@
 -- Demand 3 in force speaks of something: calls on the sample share that meet its premises, of the code and of `service`. A report at 45 is
--- given; an append stamped 44 is refused, one stamped 45 accepted; the report at 46 has one row more, which is struck. Assumes nothing.
+-- given, of a log whose last record is stamped 60; an append stamped 44 is refused, one stamped 45, below the last record, accepted; the report at
+-- 46 has one row more, which is struck. Assumes nothing.
 use Prim.Native.Nat.{ℕ}
 use native.Mathlib.Omega.{arith}
 use mathlib.Core.Path.{◌≡◌, refl}
 use mathlib.Core.List.{List, [], ◌∷◌, ◌++◌}
 use denote.MutBor.{MutBor}
 use denote.Ref.{Bor}
-use Rattle.calls.specs.declared.Refusal.TheVariants.{StampTooLow}
+use Rattle.calls.specs.declared.Refusal.TheVariants.{KeyPresent}
 use Rattle.std.specs.Prelude.{Ok, Err}
 use Rattle.format.specs.Records.{value_width}
 use Rattle.calls.specs.Answers.{Answer, counted_answer, unpacked}
@@ -23,11 +24,11 @@ use Rattle.lasting.specs.Demand.{AppendRelation, ReportRelation, AppendCall, hel
 use Rattle.lasting.specs.Made.{AppendContract, AppendBy, ReportContract, ReportBy, AppendMade, ReportMade, AppendServed, ReportServed}
 use Rattle.lasting.proofs.InForce.{in-force, served-in-force}
 
--- Written (5, 3) at 44 is refused with 12, at 45 it is accepted
+-- Written (5, 2) again, at 44, is refused with 13; Written (5, 3) at 45 is accepted
 abbrev pub calls : List AppendCall
 calls =
-    record { event = writing 44 3; outcome = gives 12 0 (log 45 ++ rest 24) }
-    ∷ record { event = writing 45 3; outcome = gives 0 69 (log 45 ++ (writing 45 3 ++ rest 11)) }
+    record { event = writing 44 2; outcome = gives 13 0 (log 60 ++ rest 24) }
+    ∷ record { event = writing 45 3; outcome = gives 0 69 (log 60 ++ (writing 45 3 ++ rest 11)) }
     ∷ []
 
 -- the report at 45 has two rows
@@ -114,20 +115,20 @@ unfolding computes held_at_end
 made = record {
   given_made = report-by _ report_reads.Learnt counted_answer held 45 (rest 54) (Ok 2) given refl refl;
   appends-made = (
-    append-by _ append_reads.Learnt counted_answer held (writing 44 3) (Err StampTooLow) _ refl refl,
+    append-by _ append_reads.Learnt counted_answer held (writing 44 2) (Err KeyPresent) _ refl refl,
     (append-by _ append_reads.Learnt counted_answer held (writing 45 3) (Ok 69) _ refl refl, tt),
   );
   later-made = report-by _ report_reads.Learnt counted_answer (held_at_end held calls) 46 (rest 60) (Ok 3) later refl refl;
   other-made = report-by _ report_reads.Learnt counted_answer other 45 (rest 40) (Ok 2) of_other refl refl;
 }
 
--- calls of `service`: 51,539,607,552 is 12 times 4,294,967,296
+-- calls of `service`: 55,834,574,848 is 13 times 4,294,967,296
 pub made-served : Tried AppendServed ReportServed
 unfolding computes held_at_end
 made-served = record {
   given_made = report-by _ served_report_reads.Learnt unpacked held 45 (rest 54) 2 given refl refl;
   appends-made = (
-    append-by _ served_append_reads.Learnt unpacked held (writing 44 3) 51539607552 _ refl refl,
+    append-by _ served_append_reads.Learnt unpacked held (writing 44 2) 55834574848 _ refl refl,
     (append-by _ served_append_reads.Learnt unpacked held (writing 45 3) 69 _ refl refl, tt),
   );
   later-made = report-by _ served_report_reads.Learnt unpacked (held_at_end held calls) 46 (rest 60) 3 later refl refl;

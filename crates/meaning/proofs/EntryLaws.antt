@@ -56,14 +56,21 @@ find-some p (q ∷ log) r e = go (p q) refl e (find-some p log r)
     go true t e ih = let same : r ≡ q = cc in (Memᴰ.head same, ap p same ∙ t)
     go false t e ih = (Memᴰ.tail (ih e).0, (ih e).1)
 
+-- what makes a record the one that is looked for
+pub sought : (terms : Terms) (j key m : ℕ) (r : Record) → is_sought terms j key m r ≡ true → (is_subject terms j r ≡ true) × (key_of terms r ≡ key) × (r.stamp < m)
+unfolding is_sought
+sought terms j key m r e =
+    let a = and-true (is_subject terms j r && eqb (key_of terms r) key) (ltb r.stamp m) e in
+    let b = and-true (is_subject terms j r) (eqb (key_of terms r) key) a.0 in
+    (b.0, eqb-true (key_of terms r) key b.1, ltb-true r.stamp m a.1)
+
 -- The subject that is looked for is found in the log.
 pub subject-found : (terms : Terms) (log : Log) (j key m : ℕ) (r : Record) → subject_of terms log j key m ≡ some r → IsSubjectOf terms log j key m r
-unfolding subject_of is_sought
+unfolding subject_of
 subject-found terms log j key m r e =
     let found = find-some _ log r e in
-    let a = and-true (is_subject terms j r && eqb (key_of terms r) key) (ltb r.stamp m) found.1 in
-    let b = and-true (is_subject terms j r) (eqb (key_of terms r) key) a.0 in
-    record { logged = found.0; is-subject = b.0; has_key = eqb-true (key_of terms r) key b.1; stamped = ltb-true r.stamp m a.1 }
+    let has = sought terms j key m r found.1 in
+    record { logged = found.0; is-subject = has.0; has_key = has.1; stamped = has.2 }
 
 entry_of : (terms : Terms) (log : Log) (m j : ℕ) (r : Record) (s : Stage) → entry s (entries_of terms log m j r) ≡ before m (stage_time terms log s j r)
 unfolding entries_of

@@ -10,13 +10,13 @@ pub mod BoundLaws
 pub mod RelatedTimes
 pub mod StrikeLaws
 pub mod MaskLaws
-pub mod StampLaws
 pub mod Equation
 pub mod LastMinute
 pub mod RowLaws
 pub mod EntryLaws
 pub mod SameBefore
 pub mod RowsSame
+pub mod Rearranged
 pub mod Computes
 pub mod Cases
 pub mod Readings

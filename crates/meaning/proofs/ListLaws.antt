@@ -1,9 +1,11 @@
--- A property of each element of a list, and a test of some element, go through the ways in which lists are made; and lists one after another. Assumes nothing.
+-- A property of each element of a list, and a test of some element, go through the ways in which lists are made; lists one after another; and lists rearranged.
+-- Assumes nothing.
 use Prim.Native.Nat.{ℕ, zero, suc}
-use mathlib.Core.Path.{◌≡◌, refl, ap, sym, ap₂}
+use mathlib.Core.Path.{◌≡◌, refl, ap, sym, ap₂, ◌∙◌}
 use mathlib.Core.Bool.{Bool, true, false, ◌||◌, or-false, or_assoc, not, true≢false}
-use mathlib.Core.List.{List, [], ◌∷◌, ◌++◌, map, flat_map, flatten, append-nil, append_assoc}
-use lib.ListN.{take, drop, get_or}
+use mathlib.Core.List.Permᴰ
+use mathlib.Core.List.{List, [], ◌∷◌, ◌++◌, map, flat_map, flatten, append-nil, append_assoc, Permᴰ}
+use lib.ListN.{length, take, drop, get_or}
 use Rattle.meaning.specs.Lists.{any_of, All, is_empty}
 
 -- Of two lists one after the other: what holds in both.
@@ -126,3 +128,25 @@ empty (x ∷ l) e = absurd (true≢false e)
 pub map_back : {A B : Type 0} {P : A → Type 0} (f : A → B) (g : B → A) → ((x : A) → P x → g (f x) ≡ x) → (xs : List A) → All P xs → map g (map f xs) ≡ xs
 map_back f g h [] good = refl
 map_back f g h (x ∷ xs) good = ap₂ (λ y ys. y ∷ ys) (h x good.0) (map_back f g h xs good.1)
+
+-- what elements give is rearranged where what each gives is
+pub flat_map-each : {A B : Type 0} (f g : A → List B) → ((x : A) → Permᴰ (f x) (g x)) → (l : List A) → Permᴰ (flat_map f l) (flat_map g l)
+unfolding flat_map
+flat_map-each f g h [] = Permᴰ.nil
+flat_map-each f g h (x ∷ l) = Permᴰ.trans (Permᴰ.append_right (flat_map f l) (h x)) (Permᴰ.append_left (g x) (flat_map-each f g h l))
+
+-- and where the elements are
+pub flat_map-moved : {A B : Type 0} (f : A → List B) {l l' : List A} → Permᴰ l l' → Permᴰ (flat_map f l) (flat_map f l')
+unfolding flat_map
+flat_map-moved f Permᴰ.nil = Permᴰ.nil
+flat_map-moved f (Permᴰ.cons {b = x} e moved) = rw e (Permᴰ.append_left (f x) (flat_map-moved f moved))
+flat_map-moved f (Permᴰ.swap {a' = x} {b' = y} {l = l} d e) =
+    rw (d, e, sym (append_assoc (f x) (f y) (flat_map f l)), sym (append_assoc (f y) (f x) (flat_map f l))) (Permᴰ.append_right (flat_map f l) (Permᴰ.append_comm (f y) (f x)))
+flat_map-moved f (Permᴰ.trans moved further) = Permᴰ.trans (flat_map-moved f moved) (flat_map-moved f further)
+
+-- a rearranged list has as many elements
+pub length-moved : {A : Type 0} {l l' : List A} → Permᴰ l l' → length l ≡ length l'
+length-moved Permᴰ.nil = refl
+length-moved (Permᴰ.cons e moved) = ap suc (length-moved moved)
+length-moved (Permᴰ.swap d e) = refl
+length-moved (Permᴰ.trans moved further) = length-moved moved ∙ length-moved further

@@ -1,7 +1,8 @@
 -- Words of document 01 that could be read in a second way and that its sample leaves open, as far as they are about terms and records, not about
 -- bytes: each case is a log under terms, given as data, beside the rows that the words give, closed by computation. A1 to A13 number these readings.
--- Beside them stand counts (document 02, wish 1), the connectives, each type of norm, each sign of a bound, citations, the order of rows, and what
--- refusals 8, 9, 12 and 16 ask of records. The expected outcomes are written from the documents. Assumes nothing.
+-- Beside them stand counts (document 02, wish 1), records in order of arrival with stamps in any order (wish 3), the connectives, each type of norm,
+-- each sign of a bound, citations, the order of rows, and what refusals 9 and 16 ask of records. The expected outcomes are written from the
+-- documents. Assumes nothing.
 use Prim.Native.Nat.{ℕ}
 use mathlib.Core.Path.{refl}
 use mathlib.Core.Bool.{Bool, true, false}
@@ -20,16 +21,15 @@ use Rattle.meaning.specs.declared.Atom.TheVariants.{Happens, Counts}
 use Rattle.meaning.specs.declared.Row.{Row}
 use Rattle.meaning.specs.Terms as terms
 use Rattle.meaning.specs.Terms.{EventKind, Expr, and, or, except, always, Schema, Terms}
-use Rattle.meaning.specs.Log.{Record, Log, stamps_fall, key_repeats, last_stamp}
+use Rattle.meaning.specs.Log.{Record, Log, key_repeats}
 use Rattle.meaning.specs.Rows.{report_rows, subject_of}
 use Rattle.meaning.proofs.Cases.{Case, case, Hold, hold-all}
 use Rattle.meaning.proofs.Computes.{computes}
 
--- what a case shows: rows, whether a condition holds, the last stamp, or the subject that is found
+-- what a case shows: rows, whether a condition holds, or the subject that is found
 pub data Shown : Type 0 where
   rows : List Row → Shown
   holds : Bool → Shown
-  last_is : ℕ → Shown
   found_is : Option Record → Shown
 
 -- a kind: mask of attributes, key attribute
@@ -450,14 +450,42 @@ row_cases =
     ∷ case (reported_at 0 (norm Authorization always E10 nothing) (s_at 0 ++ f_at 30)) (rows [])
     ∷ []
 
+-- an authorization that E detaches, whenever it happens
+abbrev any_E : List Schema
+any_E = norm Authorization always (leaf E (Plain 0) Open) nothing
+
+-- records stand in order of arrival, with stamps in any order (document 02, wish 3)
+abbrev arrival_cases : List (Case Shown)
+arrival_cases =
+    -- the earliest is the smallest stamp, wherever it stands: of a leaf, in its window, of a bound, of a count's bound
+    case (detaching (leaf E (Plain 0) Open) (e_at 9 ++ e_at 4)) (occurs_at 4)
+    ∷ case (detaching (leaf E (Plain 0) Open) (e_at 4 ++ e_at 9)) (occurs_at 4)
+    ∷ case (detaching (leaf E (Plain 5) (Plain 20)) (e_at 9 ++ e_at 4 ++ e_at 7 ++ e_at 8)) (occurs_at 7)
+    ∷ case (detaching (leaf E (Plus F 2) (Plus F 3)) (f_at 9 ++ f_at 4 ++ e_at 6)) (occurs_at 6)
+    ∷ case (detaching (leaf E (Plus F 2) (Plus F 3)) (f_at 9 ++ f_at 4 ++ e_at 11)) (fails_at 7)
+    ∷ case (detaching (more_than 1 1 (Plus F 0) (Plus F 3)) (f_at 9 ++ e_at 6 ++ f_at 4 ++ e_at 5)) (occurs_at 7)
+    -- the subject may arrive last, after the subjects of a schema that it cites; of these the earliest counts
+    ∷ case (reported any_E (e_at 5 ++ s_at 0)) (rows (row Created 0 ∷ row Detached 5 ∷ []))
+    ∷ case
+    (many_of
+    (leaf F (Plus (created 0) 0) (Plus (created 0) 2))
+    (event 2 3 (9 ∷ 7 ∷ []) ++ event 1 4 (3 ∷ 7 ∷ []) ++ event 1 2 (2 ∷ 7 ∷ []) ++ event 0 0 (7 ∷ [])))
+    (rows (row_on 0 3 Created 4 ∷ row_on 0 2 Created 2 ∷ row_on 1 7 Created 0 ∷ row_on 1 7 Detached 3 ∷ []))
+    -- rows go by place in the log, not by time
+    ∷ case (reported any_E (event 0 40 (6 ∷ []) ++ event 0 10 (5 ∷ []))) (rows (row_on 0 6 Created 40 ∷ row_on 0 5 Created 10 ∷ []))
+    -- a report at 10, and the one after an upload stamped before it: the case that demand 3 leaves out; one stamped 10 changes nothing at 10
+    ∷ case (reported_at 10 any_E (s_at 0)) (rows (row Created 0 ∷ []))
+    ∷ case (reported_at 10 any_E (s_at 0 ++ e_at 5)) (rows (row Created 0 ∷ row Detached 5 ∷ []))
+    ∷ case (reported_at 10 any_E (s_at 0 ++ e_at 10)) (rows (row Created 0 ∷ []))
+    -- nor does one stamped 10 that arrives before an earlier one
+    ∷ case (reported_at 10 any_E (e_at 10 ++ s_at 0)) (rows (row Created 0 ∷ []))
+    ∷ []
+
 -- terms of one norm on S without leaves, for what is asked of records alone
 abbrev good : Terms
 good = record { kinds = kinds; schemas = norm Authorization always always always }
 
--- what refusals 8, 9 and 12 ask of a log's records
-abbrev falls : Log → Shown
-falls log = holds (stamps_fall log)
-
+-- what refusal 9 asks of a log's records
 abbrev repeats : Log → Shown
 repeats log = holds (key_repeats good log)
 
@@ -467,21 +495,18 @@ found key m log = found_is (subject_of good log 0 key m)
 
 abbrev record_cases : List (Case Shown)
 record_cases =
-    -- 8: a stamp may be equal, not below, and only the one just before it counts
-    case (falls (s_at 5 ++ e_at 5)) (holds false)
-    ∷ case (falls (s_at 5 ++ e_at 4)) (holds true)
-    ∷ case (falls (s_at 5 ++ e_at 6 ++ e_at 5)) (holds true)
-    -- 12: the last record's stamp; without records the smallest there is
-    ∷ case (last_is (last_stamp (s_at 3 ++ e_at 4 ++ f_at 4))) (last_is 4)
-    ∷ case (last_is (last_stamp (s_at 5 ++ e_at 4))) (last_is 4)
-    ∷ case (last_is (last_stamp [])) (last_is 0)
     -- 9: one kind and one key; the key alone decides, and only within a kind
-    ∷ case (repeats (s_at 1 ++ event 0 2 (8 ∷ []))) (holds false)
+    case (repeats (s_at 1 ++ event 0 2 (8 ∷ []))) (holds false)
     ∷ case (repeats (s_at 1 ++ s_at 2)) (holds true)
     ∷ case (repeats (s_at 1 ++ e_at 2 ++ s_at 3)) (holds true)
     ∷ case (repeats (event 1 1 (7 ∷ 5 ∷ []) ++ event 2 1 (7 ∷ 5 ∷ []))) (holds false)
     ∷ case (repeats (event 1 1 (7 ∷ 5 ∷ []) ++ event 1 1 (8 ∷ 5 ∷ []))) (holds true)
     ∷ case (repeats (event 1 1 (7 ∷ 5 ∷ []) ++ event 1 1 (7 ∷ 6 ∷ []))) (holds false)
+    -- 9 and 16, whatever the stamps are
+    ∷ case (repeats (event 1 20 (7 ∷ 5 ∷ []) ++ event 1 10 (8 ∷ 5 ∷ []))) (holds true)
+    ∷ case (repeats (event 1 20 (7 ∷ 5 ∷ []) ++ event 1 10 (8 ∷ 6 ∷ []))) (holds false)
+    ∷ case (found 7 5 (event 0 9 (8 ∷ []) ++ s_at 4)) (found_is (some (record { kind = 0; stamp = 4; values = 7 ∷ [] })))
+    ∷ case (found 8 5 (event 0 9 (8 ∷ []) ++ s_at 4)) (found_is none)
     -- 16: a subject of the schema, with the key, stamped before the moment
     ∷ case (found 7 5 (event 0 4 (8 ∷ []) ++ s_at 4)) (found_is (some (record { kind = 0; stamp = 4; values = 7 ∷ [] })))
     ∷ case (found 7 4 (event 0 4 (8 ∷ []) ++ s_at 4)) (found_is none)
@@ -513,14 +538,18 @@ row_hold : Hold row_cases
 unfolding computes
 row_hold = refl
 
+arrival_hold : Hold arrival_cases
+unfolding computes
+arrival_hold = refl
+
 record_hold : Hold record_cases
 unfolding computes
 record_hold = refl
 
 -- the parts of the second list that are about terms and records
 abbrev pub parts : List (List (Case Shown))
-parts = leaf_cases ∷ count_cases ∷ connective_cases ∷ type_cases ∷ stage_cases ∷ row_cases ∷ record_cases ∷ []
+parts = leaf_cases ∷ count_cases ∷ connective_cases ∷ type_cases ∷ stage_cases ∷ row_cases ∷ arrival_cases ∷ record_cases ∷ []
 
 -- each gives what the document's words say; the parts are computed one by one, which is quicker than all at once
 pub readings : Hold (flatten parts)
-readings = hold-all parts (leaf_hold, (count_hold, (connective_hold, (type_hold, (stage_hold, (row_hold, (record_hold, tt)))))))
+readings = hold-all parts (leaf_hold, (count_hold, (connective_hold, (type_hold, (stage_hold, (row_hold, (arrival_hold, (record_hold, tt))))))))

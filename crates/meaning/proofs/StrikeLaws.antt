@@ -3,12 +3,13 @@ use Prim.Native.Nat.{ℕ, ◌≤◌, ◌<◌}
 use native.Mathlib.Omega.{arith}
 use mathlib.Core.Path.{◌≡◌, refl, ap, ◌∙◌}
 use mathlib.Core.Bool.{Bool, true, false, cond}
-use mathlib.Core.List.{List, [], ◌∷◌, ◌++◌, map, flat_map}
+use mathlib.Core.List.{List, [], ◌∷◌, ◌++◌, map, flat_map, Permᴰ}
 use lib.Dec.{ltb}
 use lib.ListN.{length}
 use borrow.Author.Tests.{ltb-true, ltb-false, le-ltb}
 use Rattle.meaning.specs.Lists.{All}
 use Rattle.meaning.specs.Rows.{strike}
+use Rattle.meaning.proofs.ListLaws.{flat_map-moved}
 
 module _ {A : Type 0} (timed : A → ℕ) where
   -- no more is left than there was
@@ -92,3 +93,13 @@ module _ {A : Type 0} (timed : A → ℕ) where
           → cond b (f x ∷ strike timed' m (map f l)) (strike timed' m (map f l)) ≡ map f (cond b (x ∷ strike timed m l) (strike timed m l))
       go true ih = rw ih
       go false ih = ih
+
+  -- Elements are struck one by one.
+  strike-each : (m : ℕ) (l : List A) → strike timed m l ≡ flat_map (λ x. strike timed m (x ∷ [])) l
+  unfolding flat_map strike
+  strike-each m [] = refl
+  strike-each m (x ∷ l) = strike-append m (x ∷ []) l ∙ ap (λ (k : List A). strike timed m (x ∷ []) ++ k) (strike-each m l)
+
+  -- So what is left of a rearranged list is what is left of the list, rearranged.
+  pub strike-moved : (m : ℕ) {l l' : List A} → Permᴰ l l' → Permᴰ (strike timed m l) (strike timed m l')
+  strike-moved m {l} {l'} moved = rw (strike-each m l, strike-each m l') (flat_map-moved (λ x. strike timed m (x ∷ [])) moved)

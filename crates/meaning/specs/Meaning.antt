@@ -105,7 +105,7 @@ module _ (times : StageTimes) (terms : Terms) (log : Log) (subject : Record) whe
   known (Minus e n) = first e
   known Open = At 0
 
-  -- the first happening in the window, but not before both bounds are known (leaf occurs)
+  -- the earliest happening in the window, but not before both bounds are known (leaf occurs)
   unfoldable pub leaf_occurrence : Leaf → Time
   leaf_occurrence x =
       once_known (known x.lower) λ g.
