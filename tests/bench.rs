@@ -15,7 +15,7 @@ use engine::{Answer, Engine, Log};
 use measure::{head, line, measured, Way};
 use rows::ROW;
 use second::Outcome;
-use shares::{bytes, last_stamp, shares, Record, LOG_LIMIT, SHARE, WRITE, WRITTEN};
+use shares::{bytes, latest, shares, Record, LOG_LIMIT, SHARE, WRITE, WRITTEN};
 
 /// Parts of the longest log.
 const ALL: [usize; 4] = [8, 4, 2, 1];
@@ -52,6 +52,7 @@ fn main() {
     checks_and_appends();
     repeated_keys();
     many_leaves();
+    orders();
     one_hash();
     database();
 }
@@ -137,7 +138,7 @@ fn whole<'a>(terms: &'a [u8], log: &'a [u8]) -> Log<'a> {
 
 /// A moment after everything.
 fn late(records: &[Record]) -> u32 {
-    last_stamp(records) + 1_000
+    latest(records) + 1_000
 }
 
 fn blank(page: Page, log: Log, moment: u32) -> Vec<u8> {
@@ -271,29 +272,47 @@ fn many_leaves() {
     lines(&[PLAIN_PART], 0, |records, before| reports.line(name, records, before));
 }
 
+/// Calls 4 and 2 on a full log whose records arrive in other orders.
+fn orders() {
+    let usual = shares(LOG_LIMIT / SHARE);
+    let backwards = usual.iter().rev().cloned().collect();
+    let scattered = shares::scattered(&usual);
+    let logs = [("by stamp", usual), ("backwards", backwards), ("scattered", scattered)];
+    let title = "Reports on a full log in other orders of arrival; against the first line.";
+    compared(title, "against by stamp", &logs, |name, _| name.to_string());
+}
+
 /// Calls 4 and 2 on a full log, and on the same with values that share chains.
 fn one_hash() {
-    let terms = shares::sample();
     let usual = shares(LOG_LIMIT / SHARE);
-    let logs = [
-        ("one hash", shares::one_hash(&usual)),
-        ("few chains", shares::few_chains(&usual)),
-    ];
+    let (one, few) = (shares::one_hash(&usual), shares::few_chains(&usual));
+    let logs = [("usual", usual), ("one hash", one), ("few chains", few)];
+    let title = "Reports on a full log whose values share chains; against the first line.";
+    compared(title, "against usual", &logs, with_chains);
+}
+
+/// Calls 4 and 2 under the sample terms on some logs, each against the first.
+fn compared(title: &str, against: &str, logs: &[(&str, Vec<Record>)], label: fn(&str, &[Record]) -> String) {
+    let terms = shares::sample();
     let reports = Reports {
         terms: &terms,
         page: ROOM,
         others: &[PLAIN, TABLES],
     };
-    let title = "Reports on a full log whose values share chains; against the first line.";
-    head(title, REPORT, &["plain", "tables"], "against usual");
-    let before = reports.line(&with_chains("usual", &usual), &usual, &[]);
-    for (name, log) in &logs {
-        reports.line(&with_chains(name, log), log, &before);
-    }
-    head("Check log on the same.", CHECK, &["second"], "against usual");
-    let before = accepted("usual", &terms).check_line(&usual, &[]);
-    for (name, log) in &logs {
-        accepted(name, &terms).check_line(log, &before);
+    head(title, REPORT, &["plain", "tables"], against);
+    against_first(logs, |name, log, before| reports.line(&label(name, log), log, before));
+    head("Check log on the same.", CHECK, &["second"], against);
+    against_first(logs, |name, log, before| accepted(name, &terms).check_line(log, before));
+}
+
+/// Prints a line for each log, each compared with the first.
+fn against_first(logs: &[(&str, Vec<Record>)], line: impl Fn(&str, &[Record], &[f64]) -> Vec<f64>) {
+    let mut first = Vec::new();
+    for (name, log) in logs {
+        let times = line(name, log, &first);
+        if first.is_empty() {
+            first = times;
+        }
     }
 }
 

@@ -17,7 +17,7 @@ pub use log::walk;
 pub use random::Random;
 pub use terms::Terms;
 
-use log::{Drawer, Record};
+use log::{latest, some_stamp, Drawer, Record};
 use terms::HIGHEST;
 
 pub const TERMS_LIMIT: usize = 16_384;
@@ -101,14 +101,16 @@ pub fn any(random: &mut Random) -> Case {
     }
     let aims: Vec<u32> = match random.below(100) {
         0..=54 => vec![],
-        55..=89 => vec![random.between(2, NOISE)],
-        _ => (0..random.between(2, 4)).map(|_| random.between(2, NOISE)).collect(),
+        55..=89 => vec![random.pick(&AIMS)],
+        _ => (0..random.between(2, 4)).map(|_| random.pick(&AIMS)).collect(),
     };
     aimed(random, &WIDE, &aims)
 }
 
 /// The aim of a case with random changes to its bytes.
 pub const NOISE: u32 = 17;
+/// What a case can aim at: the refusals from 2 on that are given, and random changes.
+pub const AIMS: [u32; 14] = [2, 3, 4, 5, 6, 7, 9, 10, 11, 13, 14, 15, 16, NOISE];
 
 /// A case at which the given refusals are aimed; what comes about may be another one, or none.
 pub fn aimed(random: &mut Random, size: &Size, aims: &[u32]) -> Case {
@@ -248,19 +250,11 @@ fn room(random: &mut Random, events: &[Vec<u8>], aims: &[u32]) -> usize {
     random.pick(&[0, first, all, all, all + few, all + few, all + few])
 }
 
-fn some_stamp(random: &mut Random, records: &[Record]) -> u32 {
-    if records.is_empty() {
-        0
-    } else {
-        records[random.index(records.len())].stamp
-    }
-}
-
 /// A moment near a record's stamp or an offset away from it, or after everything.
 fn moment(random: &mut Random, terms: &Terms, records: &[Record]) -> u32 {
     let drawer = Drawer::new(random, terms);
     let stamp = some_stamp(random, records);
-    let last = records.last().map_or(0, |record| record.stamp);
+    let last = latest(records);
     match random.below(10) {
         0 => random.pick(&[0, 1, HIGHEST, HIGHEST + 1, u32::MAX - 1]),
         1 => random.word(),
@@ -299,16 +293,21 @@ fn question(random: &mut Random, terms: &Terms, records: &[Record], moment: u32,
 
 /// Two moments, the first mostly not after the stamp of any event that an append can take.
 fn lasting(random: &mut Random, records: &[Record], events: &[Vec<u8>], moment: u32) -> (u32, u32) {
-    let last = records.last().map_or(0, |record| record.stamp);
     let stamps = events
         .iter()
         .filter_map(|event| Some(u32::from_le_bytes(event.get(1..5)?.try_into().ok()?)));
-    let soonest = stamps
-        .filter(|stamp| (last..=HIGHEST).contains(stamp))
-        .min()
-        .unwrap_or(u32::MAX);
+    let soonest = stamps.filter(|&stamp| stamp <= HIGHEST).min().unwrap_or(u32::MAX);
     let some = some_stamp(random, records);
-    let first = random.pick(&[last, soonest, soonest, soonest, some, some + 1, moment]);
+    let first = random.pick(&[
+        soonest,
+        soonest,
+        soonest,
+        soonest,
+        some,
+        some + 1,
+        moment,
+        latest(records),
+    ]);
     let later = random.pick(&[
         first,
         first.saturating_add(1),

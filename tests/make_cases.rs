@@ -8,9 +8,9 @@ mod second;
 #[allow(unused)]
 mod tally;
 
-use generate::{Case, Random, NOISE, SMALL};
+use generate::{Case, Random, AIMS, SMALL};
 use std::io::Write;
-use tally::Counts;
+use tally::{Counts, Order};
 
 const SEED: u64 = 20_261_116;
 const CASES: u32 = 3_200;
@@ -30,6 +30,7 @@ fn main() {
     let mut output = CASES.to_le_bytes().to_vec();
     let mut numbers = [[0; 17]; 5];
     let mut counts = Counts::default();
+    let mut order = Order::default();
     let mut long = 0;
     for place in 0..CASES {
         let (case, written) = loop {
@@ -39,6 +40,7 @@ fn main() {
             }
         };
         counts.add(&case);
+        written.add_order(&case, &mut order);
         for (answered, number) in numbers.iter_mut().zip(written.numbers) {
             answered[number as usize] += 1;
         }
@@ -50,24 +52,25 @@ fn main() {
         "{} bytes, {long} long cases",
         output.len()
     );
-    let missed = [tally::unanswered(&numbers), counts.missed()].concat();
+    let missed = [tally::unanswered(&numbers), counts.missed(), order.missed()].concat();
     assert!(missed.is_empty(), "never came up: {}", missed.join(", "));
-    eprintln!("{}{counts}", tally::spread(&numbers));
+    let unexpected = tally::unexpected(&numbers);
+    assert!(unexpected.is_empty(), "{}", unexpected.join(", "));
+    eprintln!("{}{counts}\n{order}", tally::spread(&numbers));
     eprintln!("{CASES} cases, {long} long ones, {} bytes", output.len());
     std::io::stdout()
         .write_all(&output)
         .expect("standard output takes the cases");
 }
 
-/// The large cases, then a round of aims: nothing, each refusal from 2 on, noise, two at once.
+/// The large cases, then a round of aims: each one alone, two at once, nothing.
 fn drawn(random: &mut Random, place: u32) -> Case {
     if place < LONG {
         return generate::large(random, place);
     }
-    let aims = match place % 25 {
-        step @ 0..=14 => vec![step + 2],
-        15 => vec![NOISE],
-        16 => vec![random.between(2, NOISE), random.between(2, NOISE)],
+    let aims = match place as usize % 25 {
+        step if step < AIMS.len() => vec![AIMS[step]],
+        14 | 15 => vec![random.pick(&AIMS), random.pick(&AIMS)],
         _ => vec![],
     };
     generate::aimed(random, &SMALL, &aims)
@@ -77,6 +80,19 @@ struct Written {
     bytes: Vec<u8>,
     /// What calls 1 to 5 answer.
     numbers: [u32; 5],
+    rows: usize,
+}
+
+impl Written {
+    /// Counts the case's log and its event.
+    fn add_order(&self, case: &Case, order: &mut Order) {
+        order.add_log(case, self.rows);
+        if self.numbers[tally::APPEND] == 0 {
+            let event = &case.events[0];
+            let stamp = u32::from_le_bytes([event[1], event[2], event[3], event[4]]);
+            order.add_append(&case.terms, &case.buffer[..case.used], stamp);
+        }
+    }
 }
 
 /// A case with the answers to its five calls, if the reading program has room for it.
@@ -115,5 +131,6 @@ fn written(case: &Case) -> Option<Written> {
     Some(Written {
         bytes,
         numbers: [checks[0], checks[1], append.number, report.number, standing],
+        rows: report.value as usize,
     })
 }

@@ -28,8 +28,18 @@ pub fn shares(count: usize) -> Vec<Record> {
     records
 }
 
-pub fn last_stamp(records: &[Record]) -> u32 {
-    records.last().map_or(0, |record| record.0)
+/// The latest of all stamps, wherever it stands.
+pub fn latest(records: &[Record]) -> u32 {
+    records.iter().map(|record| record.0).max().unwrap_or(0)
+}
+
+/// How far apart in a log the records stand that arrive one after the other: a prime, so that each arrives once.
+const STRIDE: usize = 997;
+
+/// The same records, none of them where it was: one here, the next far from it.
+pub fn scattered(records: &[Record]) -> Vec<Record> {
+    let places = (1..=records.len()).map(|turn| turn * STRIDE % records.len());
+    places.map(|place| records[place].clone()).collect()
 }
 
 pub fn bytes(records: &[Record]) -> Vec<u8> {
@@ -42,9 +52,9 @@ pub fn bytes(records: &[Record]) -> Vec<u8> {
     log
 }
 
-/// Another write to the first share, at the last stamp, under a key.
+/// Another write to the first share, at the latest stamp, under a key.
 pub fn one_more(records: &[Record], key: u32) -> Record {
-    (last_stamp(records), WRITTEN, vec![0, key])
+    (latest(records), WRITTEN, vec![0, key])
 }
 
 /// A key that no write to so many shares has.

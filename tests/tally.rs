@@ -1,6 +1,6 @@
 //! Counts of what was compared.
 
-use crate::generate::{Case, Terms};
+use crate::generate::{walk, Case, Terms};
 use crate::second;
 use std::fmt;
 
@@ -95,6 +95,82 @@ impl fmt::Display for Counts {
     }
 }
 
+/// How many accepted logs are unsorted, their stamps falling somewhere, and what was tried on late uploads.
+#[derive(Default)]
+pub struct Order {
+    logs: u64,
+    unsorted: u64,
+    /// The unsorted logs whose report has rows.
+    with_rows: u64,
+    appends: u64,
+    /// The accepted appends stamped below the log's last record.
+    below_last: u64,
+}
+
+impl Order {
+    /// Counts a case's log, by the rows of its report, if it is accepted.
+    pub fn add_log(&mut self, case: &Case, rows: usize) {
+        if second::check_log(&case.terms, &case.buffer, case.used) != 0 {
+            return;
+        }
+        let stamps = stamps(&case.terms, &case.buffer[..case.used]);
+        let falls = stamps.windows(2).any(|pair| pair[1] < pair[0]);
+        self.logs += 1;
+        self.unsorted += u64::from(falls);
+        self.with_rows += u64::from(falls && rows > 0);
+    }
+
+    /// Counts an accepted append; whether its stamp is below the last one of the log.
+    pub fn add_append(&mut self, terms: &[u8], log: &[u8], stamp: u32) -> bool {
+        let below = stamps(terms, log).last().is_some_and(|&last| stamp < last);
+        self.appends += 1;
+        self.below_last += u64::from(below);
+        below
+    }
+
+    fn merge(&mut self, other: &Order) {
+        self.logs += other.logs;
+        self.unsorted += other.unsorted;
+        self.with_rows += other.with_rows;
+        self.appends += other.appends;
+        self.below_last += other.below_last;
+    }
+
+    /// What ought to have come up and did not.
+    pub fn missed(&self) -> Vec<String> {
+        let needed = [
+            (3 * self.unsorted >= self.logs, "stamps that fall in a third of the accepted logs"),
+            (self.with_rows > 0, "a report with rows on an unsorted log"),
+            (self.below_last > 0, "an accepted append below the last stamp"),
+        ];
+        let missed = needed.iter().filter(|(met, _)| !met);
+        missed.map(|(_, what)| what.to_string()).collect()
+    }
+}
+
+/// The stamps of the records in a log's used bytes, in its order.
+fn stamps(terms: &[u8], log: &[u8]) -> Vec<u32> {
+    let records = Terms::read(terms).map_or(Vec::new(), |terms| walk(&terms, log));
+    records.iter().map(|&(_, stamp, _)| stamp).collect()
+}
+
+impl fmt::Display for Order {
+    fn fmt(&self, out: &mut fmt::Formatter) -> fmt::Result {
+        let Order {
+            logs,
+            unsorted,
+            with_rows,
+            appends,
+            below_last,
+        } = self;
+        write!(
+            out,
+            "stamps: {unsorted} of {logs} accepted logs unsorted, {with_rows} of them with rows; \
+             {below_last} of {appends} accepted appends below the last stamp"
+        )
+    }
+}
+
 #[derive(Default)]
 pub struct Tally {
     pub cases: u64,
@@ -104,8 +180,11 @@ pub struct Tally {
     /// By call, how often each of the numbers 0 to 16 was answered.
     pub numbers: [[u64; 17]; 5],
     pub lasting: Half,
+    /// How often the first half was tried with an accepted append below the last stamp.
+    pub lasting_below: u64,
     pub alike: Half,
     pub counts: Counts,
+    pub order: Order,
     /// Outputs of the listing program: rows, none, refused, bad input.
     pub listings: [u64; 4],
 }
@@ -128,10 +207,17 @@ impl Tally {
         if halves.contains(&0) {
             missed.push("a half of demand 3 on a report with rows".to_string());
         }
+        if self.lasting.left_out == 0 {
+            missed.push("an accepted event stamped before the first report's moment".to_string());
+        }
+        if self.lasting_below == 0 {
+            missed.push("demand 3 with an accepted append below the last stamp".to_string());
+        }
         if self.listings.contains(&0) {
             missed.push("a kind of output of the listing program".to_string());
         }
         missed.extend(self.counts.missed());
+        missed.extend(self.order.missed());
         missed
     }
 
@@ -145,21 +231,24 @@ impl Tally {
             *count += more;
         }
         self.lasting.merge(&other.lasting);
+        self.lasting_below += other.lasting_below;
         self.alike.merge(&other.alike);
         self.counts.merge(&other.counts);
+        self.order.merge(&other.order);
     }
 }
 
-/// The numbers that a call can answer.
+/// The numbers that a call can answer; none answers 8 or 12.
 fn answers(call: usize) -> Vec<usize> {
-    let log = 0..=9;
-    match call {
-        CHECK_TERMS => (0..=5).collect(),
-        CHECK_LOG => log.collect(),
-        APPEND => log.chain(11..=14).collect(),
-        REPORT => (0..=10).collect(),
-        _ => log.chain(15..=16).collect(),
-    }
+    let log = [0, 1, 2, 3, 4, 5, 6, 7, 9];
+    let own: &[usize] = match call {
+        CHECK_TERMS => return (0..=5).collect(),
+        CHECK_LOG => &[],
+        APPEND => &[11, 13, 14],
+        REPORT => &[10],
+        _ => &[15, 16],
+    };
+    [&log, own].concat()
 }
 
 /// The answers that no call gave.
@@ -167,6 +256,14 @@ pub fn unanswered(numbers: &[[u64; 17]; 5]) -> Vec<String> {
     let all = (0..5).flat_map(|call| answers(call).into_iter().map(move |number| (call, number)));
     all.filter(|&(call, number)| numbers[call][number] == 0)
         .map(|(call, number)| format!("{} {number}", CALLS[call]))
+        .collect()
+}
+
+/// A line for each answer that a call gave and never should.
+pub fn unexpected(numbers: &[[u64; 17]; 5]) -> Vec<String> {
+    let all = (0..5).flat_map(|call| (0..17).map(move |number| (call, number)));
+    all.filter(|&(call, number)| numbers[call][number] > 0 && !answers(call).contains(&number))
+        .map(|(call, number)| format!("{} {number} came up, which that call never gives", CALLS[call]))
         .collect()
 }
 
@@ -195,6 +292,12 @@ impl fmt::Display for Tally {
         )?;
         writeln!(out, "rows compared: {}", self.rows)?;
         writeln!(out, "{}", self.counts)?;
+        writeln!(out, "{}", self.order)?;
+        writeln!(
+            out,
+            "demand 3, first half, with an accepted append below the last stamp: {}",
+            self.lasting_below
+        )?;
         for (name, half) in [("first", &self.lasting), ("second", &self.alike)] {
             let Half {
                 tried,

@@ -304,7 +304,7 @@ fn body(random: &mut Random, items: &mut [Vec<u8>]) {
     }
 }
 
-/// Refusals 7 to 9: faults of records.
+/// Refusals 7 and 9: faults of records.
 pub fn records(random: &mut Random, terms: &Terms, records: &mut Vec<Record>, aim: u32) {
     if records.is_empty() {
         return;
@@ -316,18 +316,8 @@ pub fn records(random: &mut Random, terms: &Terms, records: &mut Vec<Record>, ai
             let last = records.len() - 1;
             records[random.pick(&[place, last])].stamp = random.pick(&[HIGHEST + 1, u32::MAX, HIGHEST]);
         }
-        8 => falling(random, records, place),
         9 => repeated(random, terms, records, place),
         _ => {}
-    }
-}
-
-fn falling(random: &mut Random, records: &mut [Record], place: usize) {
-    let before = place.saturating_sub(1);
-    match random.below(3) {
-        0 => records[place].stamp = records[before].stamp.saturating_sub(random.pick(&[0, 1, 1])),
-        1 => (records[place].stamp, records[before].stamp) = (records[before].stamp, records[place].stamp),
-        _ => records[0].stamp = records[place].stamp.saturating_add(1).min(HIGHEST),
     }
 }
 

@@ -1,7 +1,7 @@
-//! Events for append calls: accepted ones and such as refusals 11 to 14 name.
+//! Events for append calls: accepted ones and such as refusals 11, 13 and 14 name.
 
 use super::counts;
-use super::log::{Drawer, Record};
+use super::log::{latest, some_stamp, Drawer, Record};
 use super::random::Random;
 use super::terms::{Terms, HIGHEST};
 
@@ -10,26 +10,28 @@ struct State<'a> {
     terms: &'a Terms,
     drawer: Drawer<'a>,
     records: Vec<Record>,
+    /// Most events are stamped at this minute or later, so that a report given at it lasts.
+    from: u32,
 }
 
-/// Draws a list of events; the first one aims at the given refusal, if it is one of 11 to 13.
+/// Draws a list of events; the first one aims at the given refusals, as far as they are 11 and 13.
 pub fn list(random: &mut Random, terms: &Terms, records: &[Record], count: u32, aims: &[u32]) -> Vec<Vec<u8>> {
     let drawer = Drawer::after(random, terms, records);
     let mut state = State {
         terms,
         drawer,
         records: records.to_vec(),
+        from: some_stamp(random, records),
     };
-    let aimed: Vec<u32> = aims.iter().copied().filter(|aim| (11..=13).contains(aim)).collect();
+    let aimed: Vec<u32> = aims.iter().copied().filter(|aim| matches!(aim, 11 | 13)).collect();
     let mut events = Vec::new();
     for place in 0..count {
         events.push(match place {
             0 if !aimed.is_empty() => state.refused(random, &aimed),
             _ if random.percent(70) => state.accepted(random),
             _ => {
-                let mut faults = vec![random.between(11, 13)];
-                faults.extend(random.one_in(4).then(|| random.between(11, 13)));
-                state.refused(random, &faults)
+                let faults = random.pick(&[&[11][..], &[11], &[13], &[13], &[11, 13]]);
+                state.refused(random, faults)
             }
         });
     }
@@ -37,26 +39,34 @@ pub fn list(random: &mut Random, terms: &Terms, records: &[Record], count: u32, 
 }
 
 impl State<'_> {
-    fn last(&self) -> u32 {
-        self.records.last().map_or(0, |record| record.stamp)
+    /// A record's minute, one an offset away from it, or one after all of them.
+    fn stamp(&self, random: &mut Random) -> u32 {
+        let some = some_stamp(random, &self.records);
+        match random.below(4) {
+            0 => some,
+            1 => latest(&self.records).saturating_add(random.below(10)).min(HIGHEST),
+            _ => self.drawer.edge(random, some),
+        }
     }
 
     fn next(&mut self, random: &mut Random) -> Record {
-        let last = self.last();
+        let record = self.upload(random);
+        let from = if random.one_in(10) { 0 } else { self.from };
+        Record {
+            stamp: record.stamp.max(from),
+            ..record
+        }
+    }
+
+    /// An event of any minute, now and then one that the window of a count asks for.
+    fn upload(&mut self, random: &mut Random) -> Record {
         if random.one_in(3) {
             if let Some(target) = counts::target(random, self.terms, &self.records) {
-                let record = target.inside(random, &mut self.drawer);
-                let stamp = record.stamp.max(last);
-                return Record { stamp, ..record };
+                return target.inside(random, &mut self.drawer);
             }
         }
-        let later = last.saturating_add(random.below(10)).min(HIGHEST);
-        let stamp = match random.below(4) {
-            0 => last,
-            1 => later,
-            _ => self.drawer.edge(random, last).max(last),
-        };
         let kind = self.drawer.kind(random);
+        let stamp = self.stamp(random);
         self.drawer.record(random, kind, stamp)
     }
 
@@ -77,10 +87,6 @@ impl State<'_> {
                 ..self.records[place].clone()
             };
             self.change_other_values(random, &mut record);
-        }
-        if faults.contains(&12) {
-            let last = self.last();
-            record.stamp = random.pick(&[last.saturating_sub(1), last / 2, 0]);
         }
         if faults.contains(&11) {
             self.not_one_record(random, record)

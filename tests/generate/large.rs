@@ -91,7 +91,7 @@ fn long_log(random: &mut Random, used: usize, buffer: usize) -> Case {
     let mut case = plain(random, terms.bytes(), &records, buffer - used);
     case.events = vec![Record {
         kind: 0,
-        stamp: 100,
+        stamp: 70,
         values: vec![random.word()],
     }
     .bytes()];
@@ -173,7 +173,7 @@ fn fillers() -> Terms {
     }
 }
 
-/// Records of exactly so many bytes: mostly long ones, then the short ones that come out even.
+/// Records of exactly so many bytes, unsorted: mostly long ones, then the short ones that come out even.
 fn filled(random: &mut Random, length: usize) -> Vec<Record> {
     let wide = (length - 96) / 69;
     let rest = length - 69 * wide;
@@ -186,13 +186,12 @@ fn filled(random: &mut Random, length: usize) -> Vec<Record> {
         .into_iter()
         .flat_map(|(kind, values, count)| (0..count as u32).map(move |n| (kind, values, n)));
     kinds
-        .enumerate()
-        .map(|(place, (kind, values, number))| {
+        .map(|(kind, values, number)| {
             let mut values: Vec<u32> = (1..values).map(|_| random.below(3)).collect();
             values.push(number + 1);
             Record {
                 kind,
-                stamp: place as u32 / 6,
+                stamp: random.below(80),
                 values,
             }
         })

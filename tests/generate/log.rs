@@ -164,7 +164,8 @@ impl<'a> Drawer<'a> {
     }
 }
 
-/// Draws a log that is accepted. Where terms count, some of its records are drawn for the windows of counts.
+/// Draws a log that is accepted, about half of the time with stamps that fall somewhere. Where terms count, some of its
+/// records are drawn for the windows of counts.
 pub fn rich(random: &mut Random, terms: &Terms, size: &Size) -> Vec<Record> {
     let mut drawer = Drawer::new(random, terms);
     let count = match random.below(100) {
@@ -181,7 +182,50 @@ pub fn rich(random: &mut Random, terms: &Terms, size: &Size) -> Vec<Record> {
     for _ in 0..random.between(1, 3) {
         fill_window(random, &mut drawer, &mut records);
     }
+    arrange(random, &mut records);
     records
+}
+
+/// The latest stamp, wherever it stands; 0 if there is none.
+pub fn latest(records: &[Record]) -> u32 {
+    records.iter().map(|record| record.stamp).max().unwrap_or(0)
+}
+
+/// The stamp of one of the records; 0 if there is none.
+pub fn some_stamp(random: &mut Random, records: &[Record]) -> u32 {
+    if records.is_empty() {
+        0
+    } else {
+        records[random.index(records.len())].stamp
+    }
+}
+
+/// Puts records in an order of arrival: that of their stamps, the same but for a few that were uploaded late, or another.
+fn arrange(random: &mut Random, records: &mut Vec<Record>) {
+    records.sort_by_key(|record| record.stamp);
+    match random.below(10) {
+        0..=3 => {}
+        4..=6 => upload_late(random, records),
+        7 => records.reverse(),
+        _ => shuffle(random, records),
+    }
+}
+
+/// Moves a few records to somewhere after their place, mostly to the end.
+fn upload_late(random: &mut Random, records: &mut Vec<Record>) {
+    for _ in 0..random.between(1, 3).min(records.len() as u32) {
+        let place = random.index(records.len());
+        let record = records.remove(place);
+        let last = records.len();
+        let later = place + random.index(last - place + 1);
+        records.insert(random.pick(&[later, last, last]), record);
+    }
+}
+
+fn shuffle(random: &mut Random, records: &mut [Record]) {
+    for count in (2..=records.len()).rev() {
+        records.swap(count - 1, random.index(count));
+    }
 }
 
 /// Adds what the window of a count asks for, often with a record just outside it.
@@ -195,10 +239,9 @@ fn fill_window(random: &mut Random, drawer: &mut Drawer, records: &mut Vec<Recor
     if random.percent(40) {
         records.push(target.beside(random, drawer));
     }
-    records.sort_by_key(|record| record.stamp);
 }
 
-/// Rising stamps with many ties, about half of them at an edge that another one makes; now and then all of them high.
+/// Stamps with many ties, about half of them at an edge that another one makes; now and then all of them high.
 fn stamps(random: &mut Random, drawer: &Drawer, count: u32) -> Vec<u32> {
     let high = random.one_in(25);
     let base = if high { HIGHEST - random.between(0, 60) } else { 0 };
@@ -213,7 +256,6 @@ fn stamps(random: &mut Random, drawer: &Drawer, count: u32) -> Vec<u32> {
         };
         stamps.push(stamp);
     }
-    stamps.sort_unstable();
     stamps
 }
 
@@ -236,10 +278,11 @@ pub fn lengthen(random: &mut Random, terms: &Terms, records: &mut Vec<Record>, l
         let stamp = random.below(60);
         records.push(drawer.record(random, kind, stamp));
     }
-    records.sort_by_key(|record| record.stamp);
+    arrange(random, records);
 }
 
-/// Another log that has the same records before the moment; from there on some are dropped, changed or new.
+/// Another log that has the same records before the moment, in the same order; of the others, which may stand anywhere
+/// between them, some are dropped, changed or new.
 pub fn fork(random: &mut Random, terms: &Terms, records: &[Record], moment: u32) -> Vec<Record> {
     let (before, from): (Vec<Record>, Vec<Record>) = records.iter().cloned().partition(|record| record.stamp < moment);
     let mut drawer = Drawer::after(random, terms, records);
@@ -260,6 +303,18 @@ pub fn fork(random: &mut Random, terms: &Terms, records: &[Record], moment: u32)
             others.push(drawer.record(random, kind, stamp));
         }
     }
-    others.sort_by_key(|record| record.stamp);
-    before.into_iter().chain(others).collect()
+    mixed(random, before, others)
+}
+
+/// The first records in their order, and the others by their stamps after them or, mostly, anywhere.
+fn mixed(random: &mut Random, mut records: Vec<Record>, mut others: Vec<Record>) -> Vec<Record> {
+    if random.one_in(4) {
+        others.sort_by_key(|record| record.stamp);
+        records.extend(others);
+        return records;
+    }
+    for record in others {
+        records.insert(random.index(records.len() + 1), record);
+    }
+    records
 }

@@ -1,5 +1,5 @@
-//! A second implementation of the engine, written from documents 00 and 01, wish 1 of 02 and how they are read, without
-//! the engine's code.
+//! A second implementation of the engine, written from documents 00 and 01, wishes 1 and 3 of 02 and how they are read,
+//! without the engine's code.
 //!
 //! It is made to be compared with the first one, so it shares no code with it. It computes times in two ways: `minutes`
 //! asks yes/no questions of one minute after another over tables of stage times, `plain` hands times up by recursion.
