@@ -8,6 +8,7 @@ use Prim.Native.Nat.{ℕ, zero, suc}
 use mathlib.Core.Path.{◌≡◌, refl, fun_ext}
 use mathlib.Core.List.{List, Permᴰ}
 use lib.ListN.{length}
+use Rattle.meaning.specs.Log.{Record}
 use Rattle.format.specs.Fields.{terms_of}
 use Rattle.format.specs.Records.{record_from, log_of}
 use Rattle.calls.specs.Calls.{key_present, no_room, event_checks, append, page_too_short, page_checks, rows_of, standing_subject, key_checks, Outcome, unless_refused, on_page, report, standing}
@@ -36,12 +37,17 @@ module _ (w : ℕ) (terms log log' : List ℕ) (used used' : ℕ) (ok : LogAccep
       rw (own-decide w terms log used ok, own-decide w terms log' used' ok', length-moved (rows-moved m))
       (answer-same _ page page _ _ refl)
 
+  -- refusal 13
+  present-same : (r : Record) → key_present (terms_of terms) r (log_of w terms log used) ≡ key_present (terms_of terms) r (log_of w terms log' used')
+  unfolding key_present
+  present-same r = key-there moved (terms_of terms) r
+
   -- number and length of an append
   pub append-answers : used ≡ used' → length log ≡ length log' → (event : List ℕ)
       → (append w terms log used event).answer ≡ (append w terms log' used' event).answer
-  unfolding append event_checks key_present no_room
+  unfolding append event_checks no_room
   append-answers same long event =
-      rw (own-decide w terms log used ok, own-decide w terms log' used' ok', key-there moved (terms_of terms) (record_from w (terms_of terms) event), same, long)
+      rw (own-decide w terms log used ok, own-decide w terms log' used' ok', present-same (record_from w (terms_of terms) event), same, long)
       (answer-same _ log log' _ _ refl)
 
   -- a standing
