@@ -40,6 +40,14 @@ refusal-positive x = (refusal-back x).0
 pub refusal-told : (x y : Refusal) → refusal_number x ≡ refusal_number y → x ≡ y
 refusal-told x y e = sym (refusal-back x).1 ∙ ap (λ (n : ℕ). get_or refusals (n - 1) TermsTooLong) e ∙ (refusal-back y).1
 
+-- 8 and 12 are never given: no refusal has these numbers (document 02, wish 3)
+pub never-given : (x : Refusal) → (refusal_number x ≡ 8 → ⊥) × (refusal_number x ≡ 12 → ⊥)
+unfolding refusals
+never-given x =
+    let told : (n : ℕ) → refusal_number x ≡ n → x ≡ get_or refusals (n - 1) TermsTooLong =
+    λ n e. sym (refusal-back x).1 ∙ ap (λ (k : ℕ). get_or refusals (k - 1) TermsTooLong) e in
+    (λ e. omega (arith, e, ap refusal_number (told 8 e)), λ e. omega (arith, e, ap refusal_number (told 12 e)))
+
 -- a promise on number and value leaves no choice of the case: of a check
 pub checked-told : (a b : Result (Unit {0}) Refusal) → checked_answer a ≡ checked_answer b → a ≡ b
 unfolding checked_answer

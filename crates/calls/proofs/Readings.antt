@@ -310,17 +310,13 @@ revoked t = event 1 t (5 ∷ [])
 abbrev arrived : List ℕ → ℕ → Outcome
 arrived log m = report value_width sample.terms log (length log) m (rest 60)
 
--- the row of a share at t: created
-abbrev created_row : ℕ → ℕ → List ℕ
-created_row share t = 1 ∷ 0 ∷ word share ++ word 3 ++ word 9 ++ word t
-
 -- records in order of arrival, with stamps in any order, from bytes to rows (document 02, wish 3)
 abbrev arrival_cases : List (Case Outcome)
 arrival_cases =
     -- the sample log in the reverse order has the sample's rows
     case (arrived (sample.writing 45 2 ++ revoked 30 ++ shared 10 5) 46) (gives 0 3 (sample.row 1 10 ++ sample.row 2 30 ++ sample.row 5 45 ++ rest 6))
     -- rows go by place in the log, not by time
-    ∷ case (arrived (shared 40 6 ++ shared 10 5) 46) (gives 0 2 (created_row 6 40 ++ created_row 5 10 ++ rest 24))
+    ∷ case (arrived (shared 40 6 ++ shared 10 5) 46) (gives 0 2 (sample.share_row 6 1 40 ++ sample.row 1 10 ++ rest 24))
     -- a report at 45, and the one after a write stamped 44 was appended: the case that demand 3 leaves out
     ∷ case (arrived (sample.log 45) 45) (gives 0 2 (sample.row 1 10 ++ sample.row 2 30 ++ rest 24))
     ∷ case (arrived (sample.log 45 ++ sample.writing 44 3) 45) (gives 0 3 (sample.row 1 10 ++ sample.row 2 30 ++ sample.row 5 44 ++ rest 6))

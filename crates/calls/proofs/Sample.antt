@@ -61,9 +61,12 @@ log t = start ++ writing t 2
 abbrev pub rest : ℕ → List ℕ
 rest n = replicate n 0xEE
 
--- a row of the sample: stage, schema 0, share 5, owner 3, player 9, time
+-- a row of a share of owner 3 to player 9: stage, schema 0, share, owner, player, time; of the sample's share, 5
+abbrev pub share_row : ℕ → ℕ → ℕ → List ℕ
+share_row share stage t = stage ∷ 0 ∷ (word share ++ (word 3 ++ (word 9 ++ word t)))
+
 abbrev pub row : ℕ → ℕ → List ℕ
-row stage t = stage ∷ 0 ∷ (word 5 ++ (word 3 ++ (word 9 ++ word t)))
+row = share_row 5
 
 -- number, count or length, and every byte of page or buffer afterwards
 abbrev pub gives : ℕ → ℕ → List ℕ → Outcome
