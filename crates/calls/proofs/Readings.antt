@@ -1,9 +1,9 @@
 -- Words of document 01 that could be read in a second way and that its sample leaves open, as far as they are about calls: each case is a call
 -- beside the outcome that the words give, closed by computation. B3 and C1 to C6 number these readings. Beside them stand refusals 1, 6, 7, 9 to
 -- 11 and 13 to 16 with their nearest accepted neighbours, their order, stamps in any order (document 02, wish 3), and what calls leave. The lists
--- of the layers below are over data and over the conditions of single refusals; the first two parts here join them, from bytes to rows, the second
--- of them for counts (document 02, wish 1). The expected outcomes are written from the documents. Assumes nothing.
-use Prim.Native.Nat.{ℕ, suc, ◌-◌, ◌*◌}
+-- of the layers below are over data and over the conditions of single refusals; three parts here join them, from bytes to rows, one of these for
+-- counts (document 02, wish 1) and one for events that come once (wish 4). The expected outcomes are written from the documents. Assumes nothing.
+use Prim.Native.Nat.{ℕ, suc, ◌+◌, ◌-◌, ◌*◌, ◌^◌}
 use mathlib.Core.Path.{refl}
 use mathlib.Core.List.{List, [], ◌∷◌, ◌++◌, flatten}
 use lib.ListN.{length, replicate}
@@ -13,7 +13,7 @@ use Rattle.format.specs.Records.{value_width}
 use Rattle.calls.specs.Answers.{StandingAnswer}
 use Rattle.calls.specs.Calls.{check_terms, check_log, Outcome, append, report, standing}
 use Rattle.meaning.proofs.Cases.{Case, case, Hold, hold-all}
-use Rattle.format.proofs.CaseBytes.{word, kind, schema, leaf, more_than, and, or, except, always, plain, plus, minus, unbounded, S, E, F, created, detached, expired, discharged, violated, norm, clauses, plain_schema, apart_with, X, event, s_at, e_at, f_at, nothing, waiting, E10, F20}
+use Rattle.format.proofs.CaseBytes.{word, kind, schema, leaf, more_than, and, or, except, always, plain, plus, minus, unbounded, S, E, F, created, detached, expired, discharged, violated, norm, clauses, plain_schema, O, kinds_with_O, detach_with_O, apart_with, X, event, s_at, e_at, f_at, o_at, nothing, waiting, E10, F20}
 use Rattle.calls.proofs.Computes.{computes}
 use Rattle.calls.proofs.Sample.{rest, gives, told}
 use Rattle.calls.proofs.Sample as sample
@@ -327,6 +327,63 @@ arrival_cases =
     ∷ case (shown (standing value_width two_norms (e_at 5 ++ event 0 4 (8 ∷ []) ++ s_at 0) 31 0 7 6)) (stands (At 0) (At 5) Never Never (At 5))
     ∷ []
 
+-- the same as `detaching`, with O among the kinds, at the last moment there is
+abbrev detaching_with_O : List ℕ → List ℕ → Outcome
+detaching_with_O clause log = reported (detach_with_O clause) (s_at 0 ++ log)
+
+-- S carries attributes 0, its key, and k; kind 1 carries k alone, its key. The detach clause is kind 1 from 10 on. S at 0 with 7 and 8, the other at 3
+-- with 8
+abbrev other_key : ℕ → Outcome
+other_key k =
+    reported
+    (kind 0 (1 + 2 ^ k) 0 ++ kind 1 (2 ^ k) k ++ schema 2 0 0 0 always (leaf (0 ∷ 1 ∷ []) (plain 10) unbounded) nothing)
+    (event 0 0 (7 ∷ 8 ∷ []) ++ event 1 3 (8 ∷ []))
+
+-- schema 0 is an authorization on the kind with that number: always; F from 100 on; never. Schema 1, on S, detaches when that is created from 10 on
+abbrev created_on : ℕ → List ℕ → Outcome
+created_on number log =
+    reported
+    (kinds_with_O ++ schema 2 number 0 0 always (leaf F (plain 100) unbounded) nothing
+    ++ schema 2 0 0 0 always (leaf (created 0) (plain 10) unbounded) nothing)
+    (s_at 0 ++ log)
+
+-- events that come once, from bytes to rows (document 02, wish 4)
+abbrev once_cases : List (Case Outcome)
+once_cases =
+    -- before the lower bound, with each upper bound: open, closed, unknown; at the lower bound is not early
+    case (detaching_with_O (leaf O (plain 10) unbounded) (o_at 3)) (fails_at 3)
+    ∷ case (detaching_with_O (leaf O (plain 10) (plain 20)) (o_at 3)) (fails_at 3)
+    ∷ case (detaching_with_O (leaf O (plain 10) (plus F 5)) (o_at 3)) (fails_at 3)
+    ∷ case (detaching_with_O (leaf O (plain 10) (plain 2)) (o_at 3)) (fails_at 2)
+    ∷ case (detaching_with_O (leaf O (plain 3) unbounded) (o_at 3)) (occurs_at 3)
+    -- the lower bound has to be known, and its known-time counts
+    ∷ case (detaching_with_O (leaf O (plus F 5) unbounded) (o_at 3 ++ f_at 8)) (fails_at 8)
+    ∷ case (detaching_with_O (leaf O (minus F 3) unbounded) (o_at 3 ++ f_at 8)) (fails_at 8)
+    ∷ case (detaching_with_O (leaf O (plus F 5) unbounded) (o_at 3)) does_neither
+    -- what recurs does not fail early, nor does a count; the events of bounds are not judged
+    ∷ case (detaching_with_O (leaf E (plain 10) unbounded) (e_at 3)) does_neither
+    ∷ case (detaching_with_O (more_than 0 3 (plain 10) (plain 20)) (o_at 3)) (fails_at 20)
+    ∷ case (detaching_with_O (leaf E (plus O 5) unbounded) (o_at 3 ++ e_at 4)) does_neither
+    -- the key of the event's kind need not be the subject's own: attributes in both bytes of the mask
+    ∷ case (other_key 1) (fails_at 3)
+    ∷ case (other_key 8) (fails_at 3)
+    ∷ case (other_key 15) (fails_at 3)
+    -- a stage is judged by its schema's subject kind: O, and E, which recurs
+    ∷ case (created_on 3 (o_at 3)) (rows (row 1 3 ∷ row_on 1 7 1 0 ∷ row_on 1 7 3 3 ∷ []))
+    ∷ case
+    (created_on 1 (e_at 3))
+    (rows ((1 ∷ 0 ∷ word 3 ++ word 7 ++ word 7 ++ word 3) ∷ row_on 1 7 1 0 ∷ []))
+    -- the row is there one minute past the happening, and so is the standing's entry
+    ∷ case (report value_width (detach_with_O (leaf O (plain 10) unbounded)) (s_at 0 ++ o_at 3) 18 3 (rest 36)) (gives 0 1 (row 1 0 ++ rest 18))
+    ∷ case (report value_width (detach_with_O (leaf O (plain 10) unbounded)) (s_at 0 ++ o_at 3) 18 4 (rest 36)) (gives 0 2 (row 1 0 ++ row 3 3))
+    ∷ case
+    (shown (standing value_width (detach_with_O (leaf O (plain 10) unbounded)) (s_at 0 ++ o_at 3) 18 0 7 3))
+    (stands (At 0) Never Never Never Never)
+    ∷ case
+    (shown (standing value_width (detach_with_O (leaf O (plain 10) unbounded)) (s_at 0 ++ o_at 3) 18 0 7 4))
+    (stands (At 0) Never (At 3) Never Never)
+    ∷ []
+
 joined_hold : Hold joined_cases
 unfolding computes
 joined_hold = refl
@@ -355,10 +412,14 @@ arrival_hold : Hold arrival_cases
 unfolding computes
 arrival_hold = refl
 
+once_hold : Hold once_cases
+unfolding computes
+once_hold = refl
+
 -- the parts of the second list that are about calls
 abbrev pub parts : List (List (Case Outcome))
-parts = joined_cases ∷ count_cases ∷ terms_cases ∷ log_cases ∷ append_cases ∷ call_cases ∷ arrival_cases ∷ []
+parts = joined_cases ∷ count_cases ∷ terms_cases ∷ log_cases ∷ append_cases ∷ call_cases ∷ arrival_cases ∷ once_cases ∷ []
 
 -- each call gives what the document's words say; the parts are computed one by one, which is quicker than all at once
 pub readings : Hold (flatten parts)
-readings = hold-all parts (joined_hold, (count_hold, (terms_hold, (log_hold, (append_hold, (call_hold, (arrival_hold, tt)))))))
+readings = hold-all parts (joined_hold, (count_hold, (terms_hold, (log_hold, (append_hold, (call_hold, (arrival_hold, (once_hold, tt))))))))

@@ -23,6 +23,7 @@ use Rattle.meaning.specs.Meaning.{cited, and_of, or_of, except_of, leaf_occurren
 use Rattle.format.specs.Grammar.{expr_limit, file_of}
 use Rattle.format.specs.Fields.{neither, expr_at, terms_of}
 use Rattle.meaning.proofs.NeverBoth.{occurs-alone}
+use Rattle.meaning.proofs.Once.{HappensOnce}
 use Rattle.meaning.proofs.Equation.{time-equation}
 use Rattle.format.proofs.FieldLaws.{neither-silent}
 use Rattle.grammar.specs.Places.{Starts}
@@ -78,9 +79,10 @@ module _ (terms log : List ℕ) (k subject : ℕ) where
 
 module _ (terms log : List ℕ) (k subject : ℕ) (x : Expr Atom) where
   -- the times of an expression that occurs: it does not fail
-  pub occurs-times : {n : ℕ} → (times_in terms log k subject x).occurs ≡ At n → record { occurs = At n; fails = Never } ≡ times_in terms log k subject x
+  pub occurs-times : HappensOnce (cited k (stage_time (terms_of terms) (log_in terms log))) (terms_of terms) (log_in terms log) (record_in terms log subject)
+      → {n : ℕ} → (times_in terms log k subject x).occurs ≡ At n → record { occurs = At n; fails = Never } ≡ times_in terms log k subject x
   unfolding under
-  occurs-times e = ap₂ (λ (o f : Time). record { occurs = o; fails = f }) (sym e) (sym (occurs-alone _ _ _ _ x e))
+  occurs-times once e = ap₂ (λ (o f : Time). record { occurs = o; fails = f }) (sym e) (sym (occurs-alone _ _ _ _ once x e))
 
 -- the times of the clause of rank k, as it is read at its start
 abbrev pub clause_in : List ℕ → List ℕ → List ℕ → ℕ → ℕ → Times

@@ -1,5 +1,6 @@
 -- An event's happenings by a record of its kind, by what the code knows: one law for each answer.
 --     happens-not, happens-kind, happens-above, happens-stage
+--     happens-once    in what was accepted an event that comes once happens by one record at most
 -- Assumes nothing.
 use Prim.Native.Nat.{ℕ, ◌≤◌, ◌<◌}
 use mathlib.Core.Path.{◌≡◌, sym, ◌∙◌}
@@ -14,12 +15,16 @@ use Rattle.meaning.specs.declared.Event.{Event}
 use Rattle.meaning.specs.declared.Event.TheVariants.{Kind, StageOf}
 use Rattle.meaning.specs.Time.{only_if}
 use Rattle.meaning.specs.Terms.{kind_of, rank}
-use Rattle.meaning.specs.Log.{Record, correlate}
+use Rattle.meaning.specs.Log.{Record, correlate, key_repeats}
 use Rattle.meaning.specs.Meaning.{cited, time_by, happening, stage_time}
 use Rattle.format.specs.Bytes.{byte_at}
 use Rattle.format.specs.Fields.{terms_of}
-use Rattle.format.specs.Records.{value_width}
+use Rattle.format.specs.Records.{value_width, records_in}
 use Rattle.meaning.proofs.Equation.{cited-below, cited-above}
+use Rattle.meaning.proofs.Once.{HappensOnce, once}
+use Rattle.format.proofs.LogLaws.{keys-had}
+use Rattle.table.specs.declared.Table.{Table}
+use Rattle.table.specs.Table.{KindsIn}
 use Rattle.records.proofs.Steps.{stands-stamped}
 use Rattle.format.proofs.WalkLaws.{kind-here}
 use Rattle.records.specs.Holds.{record_at}
@@ -64,6 +69,13 @@ module _ (terms log : List ℕ) (k subject at : ℕ) (event : Event) {found : Bo
       → t ≡ happens terms log k subject event (record_in terms log at)
   unfolding time_by stage_in
   happens-stage {s} {j} f v h e = rw (happens-by f, v) (e ∙ sym (cited-below k _ s j _ h))
+
+-- in what was accepted each kind carries its key and no key repeats: so what comes once happens by one record at most
+pub happens-once : (terms log : List ℕ) (k subject : ℕ) {table : Table} → KindsIn (terms_of terms) table
+    → key_repeats (terms_of terms) (records_in value_width (terms_of terms) log) ≡ false
+    → HappensOnce (cited k (stage_time (terms_of terms) (log_in terms log))) (terms_of terms) (log_in terms log) (record_in terms log subject)
+unfolding log_in
+happens-once terms log k subject kinds new = once _ (terms_of terms) _ (keys-had value_width (terms_of terms) log kinds.carried) new _
 
 -- what the search for the proof of `happening` cites
 pub ruleset happenings = (happens-not, happens-kind, happens-above, happens-stage, stands-stamped)

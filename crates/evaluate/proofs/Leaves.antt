@@ -3,14 +3,19 @@
 --     first-here                                an event's earliest happening
 --     event-never, plus-known, minus-known      a bound with an event, by its earliest happening
 --     occurs, occurs-no-…                       when a leaf occurs, and when not
---     fails-empty, fails-missed                 when a leaf fails
+--     fails-empty, fails-missed                 when a leaf fails at its end, the upper bound
 --     fails-no-…, fails-unreached, fails_met    when it does not
+--     only-here                                 of an event that comes once, what is in a window
+--     early-first                               when a leaf fails early, before its lower bound
+--     early-zero, early-recurs, early-never,    when it does not
+--         early-no-lower, early-open
+--     either_failure                            it fails at its end or early
 --     count-no-…, count-more, count-few         the times of a count
 -- Assumes nothing.
 use Prim.Native.Nat.{ℕ, ◌+◌, ◌-◌, ◌≤◌, ◌<◌}
 use mathlib.Core.Path.{◌≡◌, refl, ap, ap₂, sym, ◌∙◌, fun_ext}
 use mathlib.Core.Logic.{◌⊎◌, inl, inr}
-use mathlib.Core.Bool.{Bool}
+use mathlib.Core.Bool.{Bool, true, false}
 use mathlib.Core.List.{List}
 use lib.Dec.{leb, ltb}
 use borrow.Author.Tests.{lt-ltb, le-ltb, le-leb, lt-leb}
@@ -25,13 +30,14 @@ use Rattle.meaning.specs.declared.Atom.TheVariants.{Counts}
 use Rattle.meaning.specs.declared.Edge.{Edge}
 use Rattle.meaning.specs.declared.Edge.TheVariants.{Minute, Endless}
 use Rattle.meaning.specs.declared.Times.{Times}
-use Rattle.meaning.specs.Time.{later_of, once_known, if_never, only_if}
+use Rattle.meaning.specs.Time.{later_of, earlier_of, once_known, if_never, only_if}
 use Rattle.meaning.specs.Terms.{leaf}
-use Rattle.meaning.specs.Meaning.{StageTimes, cited, reached, edge_of, first, first_within, known, leaf_occurrence, failure_at, leaf_failure, count_within, count_time, times_of, stage_time}
+use Rattle.meaning.specs.Meaning.{StageTimes, cited, from_edge, before_edge, reached, edge_of, comes_once, first, first_within, known, leaf_occurrence, failure_at, failure_at_end, first_before, early_failure, leaf_failure, count_within, count_time, times_of, stage_time}
 use Rattle.format.specs.Fields.{terms_of}
 use Rattle.format.specs.Records.{value_width, records_in}
-use Rattle.meaning.proofs.TimeLaws.{if_never-never, once_known-never}
-use Rattle.meaning.proofs.EdgeLaws.{first-whole}
+use Rattle.meaning.proofs.TimeLaws.{if_never-never, once_known-never, only_if-never}
+use Rattle.meaning.proofs.EdgeLaws.{first-whole, never-within, none-before}
+use Rattle.meaning.proofs.Once.{HappensOnce, only-within}
 use Rattle.records.specs.Holds.{record_at}
 use Rattle.evaluate.specs.declared.Known.{Known}
 use Rattle.std.specs.Prelude.{Option, Some, None}
@@ -111,45 +117,102 @@ module _ (terms log : List ℕ) (k subject : ℕ) where
             rw (q, p, e, low.0, high.0, low.1, high.1)
 
     module _ {s : Option Known} (upper : s ≡ known_as x.upper (under known terms log k subject x.upper)) where
-      -- without a known upper bound a leaf never fails
-      pub fails-no-upper : s ≡ None → Never ≡ under leaf_failure terms log k subject x
-      unfolding under leaf_failure once_known
+      -- without a known upper bound a leaf never fails at its end
+      pub fails-no-upper : s ≡ None → Never ≡ under failure_at_end terms log k subject x
+      unfolding under failure_at_end once_known
       fails-no-upper p = rw (known-never x.upper _ upper p)
 
       module _ {to : Known} (till : s ≡ Some to) {r : Time} (end : r ≡ reached to.edge) where
         -- it fails at that bound, but not before it is known
-        fails-at : under leaf_failure terms log k subject x ≡ later_of (At to.since) (under failure_at terms log k subject x.lower to.edge x.event)
-        unfolding under leaf_failure once_known
+        fails-at : under failure_at_end terms log k subject x ≡ later_of (At to.since) (under failure_at terms log k subject x.lower to.edge x.event)
+        unfolding under failure_at_end once_known
         fails-at = let high = known_at x.upper _ upper till in rw (high.0, high.1)
 
         -- a bound that is not reached is no failure
-        pub fails-unreached : r ≡ Never → Never ≡ under leaf_failure terms log k subject x
+        pub fails-unreached : r ≡ Never → Never ≡ under failure_at_end terms log k subject x
         unfolding under failure_at later_of
         fails-unreached p =
             rw (fails-at, ← end, p, fun_ext λ g. if_never-never (under first_within terms log k subject (edge_of x.lower g) to.edge x.event)) (rw (once_known-never _, if_never-never _))
 
-        module _ {m : ℕ} (at : r ≡ At m) {f : Time} (early : f ≡ under first_within terms log k subject (Minute 0) to.edge x.event) where
+        module _ {m : ℕ} (at : r ≡ At m) {f : Time} (ahead : f ≡ under first_within terms log k subject (Minute 0) to.edge x.event) where
           -- with nothing before it, it is one
-          pub fails-empty : {a : Time} → f ≡ Never → a ≡ later_of (At to.since) (At m) → a ≡ under leaf_failure terms log k subject x
+          pub fails-empty : {a : Time} → f ≡ Never → a ≡ later_of (At to.since) (At m) → a ≡ under failure_at_end terms log k subject x
           unfolding under failure_at if_never
-          fails-empty p q = rw (q, fails-at, ← early, p, ← end, at)
+          fails-empty p q = rw (q, fails-at, ← ahead, p, ← end, at)
 
           module _ {n : ℕ} (some : f ≡ At n) {q : Option Known} (lower : q ≡ known_as x.lower (under known terms log k subject x.lower)) where
             -- with something before it, not without a known lower bound
-            pub fails-no-lower : q ≡ None → Never ≡ under leaf_failure terms log k subject x
+            pub fails-no-lower : q ≡ None → Never ≡ under failure_at_end terms log k subject x
             unfolding under failure_at once_known if_never later_of
-            fails-no-lower p = rw (fails-at, ← early, some, known-never x.lower _ lower p)
+            fails-no-lower p = rw (fails-at, ← ahead, some, known-never x.lower _ lower p)
 
             module _ {from : Known} (since : q ≡ Some from) {w : Time} (inside : w ≡ under first_within terms log k subject from.edge to.edge x.event) where
               -- nor with something in the window
-              pub fails_met : {i : ℕ} → w ≡ At i → Never ≡ under leaf_failure terms log k subject x
+              pub fails_met : {i : ℕ} → w ≡ At i → Never ≡ under failure_at_end terms log k subject x
               unfolding under failure_at once_known if_never later_of
-              fails_met p = let low = known_at x.lower _ lower since in rw (fails-at, ← early, some, low.0, ← low.1, ← inside, p)
+              fails_met p = let low = known_at x.lower _ lower since in rw (fails-at, ← ahead, some, low.0, ← low.1, ← inside, p)
 
               -- with nothing in the window, but not before the lower bound is known
-              pub fails-missed : {a b : Time} → w ≡ Never → a ≡ later_of (At from.since) (At m) → b ≡ later_of (At to.since) a → b ≡ under leaf_failure terms log k subject x
+              pub fails-missed : {a b : Time} → w ≡ Never → a ≡ later_of (At from.since) (At m) → b ≡ later_of (At to.since) a → b ≡ under failure_at_end terms log k subject x
               unfolding under failure_at once_known if_never
-              fails-missed p e d = let low = known_at x.lower _ lower since in rw (d, e, fails-at, ← early, some, low.0, ← low.1, ← inside, p, ← end, at)
+              fails-missed p e d = let low = known_at x.lower _ lower since in rw (d, e, fails-at, ← ahead, some, low.0, ← low.1, ← inside, p, ← end, at)
+
+    -- nothing is before a lower bound at minute 0
+    pub early-zero : x.lower ≡ Plain 0 → under early_failure terms log k subject x ≡ Never
+    unfolding under early_failure first_before known edge_of once_known later_of
+    early-zero e = rw (e, none-before) (only_if-never _)
+
+    -- by an event that recurs a leaf never fails early
+    pub early-recurs : {o : Bool} → o ≡ comes_once (terms_of terms) (record_at (terms_of terms) log subject) x.event → o ≡ false → under early_failure terms log k subject x ≡ Never
+    unfolding under early_failure only_if record_in
+    early-recurs once p = rw (← once, p)
+
+    module _ (once : HappensOnce (cited k (stage_time (terms_of terms) (log_in terms log))) (terms_of terms) (log_in terms log) (record_in terms log subject))
+        (yes : under (λ ts t l s. comes_once t s x.event) terms log k subject ≡ true) {only : Time} (here : only ≡ under first terms log k subject x.event) where
+      -- what is in a window is the only happening, where that lies in it, else none
+      pub only-here : (l u : Edge) {t : Time} → t ≡ from_edge l (before_edge u only) → t ≡ under first_within terms log k subject l u x.event
+      unfolding under
+      only-here l u e = e ∙ rw here (sym (only-within _ _ _ _ l u x.event (once x.event yes)))
+
+      -- what never happens is before no edge
+      none-early : only ≡ Never → (l : Edge) → under first_before terms log k subject l x.event ≡ Never
+      unfolding under first_before
+      none-early p (Minute l) = sym (only-here (Minute 0) (Minute l) (rw p (sym (never-within (Minute 0) (Minute l)))))
+      none-early p Endless = refl
+
+      -- so it does not fail a leaf early
+      pub early-never : only ≡ Never → Never ≡ under early_failure terms log k subject x
+      unfolding under early_failure only_if
+      early-never p = rw (yes, fun_ext λ g. none-early p (edge_of x.lower g)) (sym (once_known-never _))
+
+      module _ {r : Option Known} (lower : r ≡ known_as x.lower (under known terms log k subject x.lower)) where
+        -- nor without a known lower bound
+        pub early-no-lower : r ≡ None → Never ≡ under early_failure terms log k subject x
+        unfolding under early_failure only_if once_known
+        early-no-lower p = rw (yes, known-never x.lower _ lower p)
+
+        module _ {from : Known} (since : r ≡ Some from) where
+          -- it fails when the event happens before that bound, but not before it is known
+          early-by : {t : Time} → t ≡ under first_before terms log k subject from.edge x.event → later_of (At from.since) t ≡ under early_failure terms log k subject x
+          unfolding under early_failure only_if once_known
+          early-by e = let low = known_at x.lower _ lower since in rw (yes, low.0, e, low.1)
+
+          -- nothing is before an open bound
+          pub early-open : from.edge ≡ Endless → Never ≡ under early_failure terms log k subject x
+          unfolding under first_before later_of
+          early-open p = early-by {t = Never} (rw p)
+
+          -- before another one: the only happening, where it lies before that bound
+          pub early-first : {l : ℕ} {f a : Time} → from.edge ≡ Minute l → f ≡ from_edge (Minute 0) (before_edge from.edge only) → a ≡ later_of (At from.since) f
+              → a ≡ under early_failure terms log k subject x
+          unfolding under first_before
+          early-first {l} p e q = q ∙ early-by (rw p (only-here (Minute 0) (Minute l) (rw p at e)))
+
+    -- it fails at its end or early
+    pub either_failure : {a b c : Time} → a ≡ under failure_at_end terms log k subject x → b ≡ under early_failure terms log k subject x
+        → c ≡ earlier_of a b → c ≡ under leaf_failure terms log k subject x
+    unfolding under leaf_failure
+    either_failure e f p = rw (p, e, f)
 
   module _ (x : CountLeaf) where
     -- the times of a count
@@ -194,11 +257,11 @@ module _ (terms log : List ℕ) (k subject : ℕ) where
               (sym (count-time (λ n. ltb x.threshold n) ∙ rw (le-ltb x.threshold n m) (never-settled from.since to.since)))
               (sym (count-time (λ n. leb n x.threshold) ∙ rw (le-leb n x.threshold m, q, p)))
 
--- what the search for the proofs of `known_bound` and `first`, of `leaf_occurrence`, of `leaf_failure` and of `count_times` cites
+-- what the search for the proofs of `known_bound` and `first`, of `leaf_occurrence`, of `failure_at_end` and of `count_times` cites
 pub ruleset bounds = (plain_known, open-known, minus-known, first-here)
 
 pub ruleset occurrences = (occurs-no-lower, occurs-no-upper)
 
-pub ruleset failures = (fails-no-upper, fails-unreached, fails-no-lower)
+pub ruleset end_failures = (fails-no-upper, fails-unreached, fails-no-lower)
 
 pub ruleset counts = (count-no-lower, count-no-upper)

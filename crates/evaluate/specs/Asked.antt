@@ -1,8 +1,11 @@
 -- The model's meaning of what is asked for a clause. Assumes nothing: these are definitions.
-use Rattle.std.specs.Prelude.{ℕ, ◌+◌, ◌*◌, ◌≡◌}
+use Rattle.std.specs.Prelude.{ℕ, ◌+◌, ◌*◌, ◌≡◌, true, Option, Some, None}
+use Rattle.meaning.specs.declared.Time.{Time}
+use Rattle.meaning.specs.declared.Time.TheVariants.{Never}
+use Rattle.meaning.specs.declared.Leaf.{Leaf}
 use Rattle.meaning.specs.Terms.{Terms}
 use Rattle.meaning.specs.Log.{Record, Log}
-use Rattle.meaning.specs.Meaning.{StageTimes}
+use Rattle.meaning.specs.Meaning.{StageTimes, comes_once, first, early_failure}
 use Rattle.accepted.specs.declared.Subject.{Subject}
 use Rattle.evaluate.specs.Seen.{under}
 use Rattle.evaluate.specs.declared.clause.Clause.{Clause}
@@ -18,3 +21,8 @@ ClausesOf s j c =
     ((c.create.subject ≡ s) × (c.create.rank ≡ 3 * j))
     × ((c.detach.subject ≡ s) × (c.detach.rank ≡ 3 * j + 1))
     × ((c.consequent.subject ≡ s) × (c.consequent.rank ≡ 3 * j + 2))
+
+-- what is known of a leaf's event beforehand. None: the leaf does not fail early. Some: the event comes once, and this is its time, or never
+abbrev pub OnlyOf : Clause → Leaf → Option Time → Type 0
+OnlyOf c x None = asked early_failure c x ≡ Never
+OnlyOf c x (Some t) = (asked (λ times terms log subject. comes_once terms subject x.event) c ≡ true) × (t ≡ asked first c x.event)

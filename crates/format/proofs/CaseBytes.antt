@@ -1,4 +1,4 @@
--- Terms and records in bytes, as the lists of cases write them: items, bounds, events, and the kinds S, E and F. Assumes nothing.
+-- Terms and records in bytes, as the lists of cases write them: items, bounds, events, and the kinds S, E, F and O. Assumes nothing.
 use Prim.Native.Nat.{ℕ, ◌/◌, ◌%◌}
 use mathlib.Core.List.{List, [], ◌∷◌, ◌++◌, flat_map}
 
@@ -50,7 +50,7 @@ minus event n = 2 ∷ event ++ word n
 abbrev pub unbounded : List ℕ
 unbounded = bound 3 0 0 0
 
--- the events, as form and number: kinds S, E and F, and a stage of the schema j
+-- the events, as form and number: kinds S, E, F and O, and a stage of the schema j
 abbrev pub S : List ℕ
 S = 0 ∷ 0 ∷ []
 
@@ -59,6 +59,9 @@ E = 0 ∷ 1 ∷ []
 
 abbrev pub F : List ℕ
 F = 0 ∷ 2 ∷ []
+
+abbrev pub O : List ℕ
+O = 0 ∷ 3 ∷ []
 
 abbrev pub created : ℕ → List ℕ
 created j = 1 ∷ j ∷ []
@@ -78,6 +81,10 @@ violated j = 5 ∷ j ∷ []
 -- S carries attribute 0, its key. E and F carry it too, and a key of their own, so that they recur
 abbrev pub kinds : List ℕ
 kinds = kind 0 0b1 0 ++ kind 1 0b11 1 ++ kind 2 0b101 2
+
+-- O beside them carries attribute 0 alone, its key, so that it comes once for an S (document 02, wish 4)
+abbrev pub kinds_with_O : List ℕ
+kinds_with_O = kinds ++ kind 3 0b1 0
 
 -- terms of one norm on S
 abbrev pub norm : ℕ → List ℕ → List ℕ → List ℕ → List ℕ
@@ -105,7 +112,7 @@ X = F
 abbrev pub event : ℕ → ℕ → List ℕ → List ℕ
 event kind stamp values = kind ∷ word stamp ++ flat_map word values
 
--- S with key 7; E and F of that S, each with its stamp for a key
+-- S with key 7; E and F of that S, each with its stamp for a key; its O
 abbrev pub s_at : ℕ → List ℕ
 s_at t = event 0 t (7 ∷ [])
 
@@ -114,6 +121,9 @@ e_at t = event 1 t (7 ∷ t ∷ [])
 
 abbrev pub f_at : ℕ → List ℕ
 f_at t = event 2 t (7 ∷ t ∷ [])
+
+abbrev pub o_at : ℕ → List ℕ
+o_at t = event 3 t (7 ∷ [])
 
 -- a clause that never occurs and fails at 0; one that neither occurs nor fails as long as there is no F
 abbrev pub nothing : List ℕ
@@ -128,3 +138,7 @@ E10 = leaf E (plain 0) (plain 10)
 
 abbrev pub F20 : List ℕ
 F20 = leaf F (plain 0) (plain 20)
+
+-- terms of one authorization on S, with O among the kinds: always; this detach clause; never
+abbrev pub detach_with_O : List ℕ → List ℕ
+detach_with_O clause = kinds_with_O ++ schema 2 0 0 0 always clause nothing

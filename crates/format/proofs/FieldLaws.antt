@@ -21,13 +21,14 @@ use Rattle.meaning.specs.declared.Atom.TheVariants.{Happens, Counts}
 use Rattle.meaning.specs.declared.Time.TheVariants.{Never}
 use Rattle.meaning.specs.declared.Times.{Times}
 use Rattle.meaning.specs.Stages.{stage_number}
+use Rattle.meaning.specs.Time.{earlier_of}
 use Rattle.meaning.specs.Terms.{Terms, leaf}
 use Rattle.meaning.specs.Log.{Record, Log}
-use Rattle.meaning.specs.Meaning.{StageTimes, reached, edge_of, known, leaf_occurrence, failure_at, leaf_failure, times_of}
+use Rattle.meaning.specs.Meaning.{StageTimes, reached, edge_of, known, leaf_occurrence, failure_at, failure_at_end, first_before, early_failure, leaf_failure, times_of}
 use Rattle.format.specs.Bytes.{bytes_of, byte_at, number_at}
 use Rattle.format.specs.Fields.{stage_event, event_of, bound_of, happening_of, count_of, leaf_of, neither, not_zero, offset_limit, event_wrong, bound_wrong, happening_wrong, count_wrong, leaf_wrong}
 use Rattle.meaning.proofs.BoolLaws.{or-false}
-use Rattle.meaning.proofs.TimeLaws.{if_never-never, once_known-never}
+use Rattle.meaning.proofs.TimeLaws.{if_never-never, once_known-never, only_if-never}
 use Rattle.meaning.proofs.EdgeLaws.{none_within}
 use Rattle.format.proofs.NumberLaws.{bytes-length, bytes-number}
 
@@ -237,5 +238,5 @@ Silent x = (x.occurs ≡ Never) × (x.fails ≡ Never)
 
 -- the leaf for an item that cannot be read neither occurs nor fails
 pub neither-silent : (times : StageTimes) (terms : Terms) (log : Log) (subject : Record) → Silent (times_of times terms log subject (leaf neither))
-unfolding neither times_of leaf_occurrence leaf_failure failure_at known edge_of reached
-neither-silent times terms log subject = (simp (none_within, once_known-never), simp (if_never-never, once_known-never))
+unfolding neither times_of leaf_occurrence leaf_failure failure_at_end failure_at first_before early_failure known edge_of reached earlier_of
+neither-silent times terms log subject = (simp (none_within, once_known-never), simp (if_never-never, once_known-never, only_if-never))

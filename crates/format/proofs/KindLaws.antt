@@ -3,11 +3,12 @@
 --     mask-here, key_here     its mask and its key
 --     kinds_count, kind-from  as many kinds as items 01, each what its body stands for
 --     mask-past               past the last one a kind that carries nothing
+--     mask-fits               a mask has 16 bits
 --     key-carried             each kind carries its key where refusal 3 does not hold
 --     kind-wrong-here         refusal 3 at an item 01, by its bytes
 --     head-wrong-here         and at an item 02, which names a kind
 -- Assumes nothing.
-use Prim.Native.Nat.{ℕ, zero, suc, ◌+◌, ◌*◌, ◌≤◌, ◌<◌}
+use Prim.Native.Nat.{ℕ, zero, suc, ◌+◌, ◌*◌, ◌^◌, ◌≤◌, ◌<◌}
 use native.Mathlib.Nat.{add_assoc}
 use native.Mathlib.Omega.{arith}
 use mathlib.Core.Path.{◌≡◌, refl, ap, sym, ◌∙◌}
@@ -17,14 +18,16 @@ use lib.Dec.{leb, ltb, eqb}
 use lib.ListN.{length, get_or, take, drop, length-append, length-map, get_or-map, get_or-eq_default}
 use lib.Seq.{take_at, drop-append-add}
 use borrow.Author.Tests.{not-false}
-use Rattle.meaning.specs.Lists.{numbers_from}
+use Rattle.meaning.specs.Lists.{numbers_from, All}
 use Rattle.meaning.specs.Terms.{kind_at}
 use Rattle.meaning.specs.Log.{carries}
 use Rattle.format.specs.Bytes.{number_of, byte_at, number_at, item}
 use Rattle.format.specs.Grammar.{kinds_limit, file_of}
 use Rattle.format.specs.Fields.{kind_from, terms_from, kind_wrong, kinds_wrong, head_wrong, field_wrong, terms_of}
 use Rattle.meaning.proofs.BoolLaws.{or-false}
+use Rattle.meaning.proofs.ListLaws.{all_drop}
 use Rattle.meaning.proofs.MemberLaws.{any_of-none, numbers-mem}
+use Rattle.format.proofs.NumberLaws.{front_fits}
 use Rattle.format.proofs.ReaderLaws.{item-sound, many-induction}
 use Rattle.format.proofs.PlaceLaws.{byte-within, byte-first, number-within}
 
@@ -72,6 +75,11 @@ key_here s k h = rw (kind-from s k, (kind-here s k h).0) (byte-within s (5 * k +
 pub mask-past : (s : List ℕ) (k : ℕ) → length (file_of s).kinds ≤ k → ((kind_at (terms_of s) k).mask ≡ 0) × ((kind_at (terms_of s) k).key ≡ 0)
 unfolding kind_from number_at number_of byte_at
 mask-past s k h = rw (kind-from s k, get_or-eq_default (file_of s).kinds [] h) (refl, refl)
+
+-- where the terms are bytes, the mask of a declared kind has 16 bits
+pub mask-fits : (s : List ℕ) → All (λ b. b < 256) s → (k : ℕ) → k < length (file_of s).kinds → (kind_at (terms_of s) k).mask < 2 ^ 16
+unfolding number_at
+mask-fits s bytes k h = rw (mask-here s k h) (front_fits 2 (drop (5 * k + 2) s) (all_drop (λ b. b < 256) (5 * k + 2) s bytes))
 
 -- an item 01 that refusal 3 does not turn away carries its key
 item-carries : (i : ℕ) (body : List ℕ) → kind_wrong i body ≡ false → carries (kind_from body).mask (kind_from body).key ≡ true

@@ -67,7 +67,7 @@ unfoldable pub leaf_of : List ℕ → Option Atom
 leaf_of item = cond (eqb (byte_at item 0) 8) (count_of item) (happening_of item)
 
 -- stands in for a leaf whose form or sign names nothing, which is refused 3: it never occurs, since an open lower bound lets nothing in, and never
--- fails, since an open upper one is not reached
+-- fails, since an open upper one is not reached and nothing is before an open lower one
 unfoldable pub neither : Atom
 neither = Happens (record { event = Kind 0; lower = Open; upper = Open })
 

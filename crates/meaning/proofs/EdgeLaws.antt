@@ -2,7 +2,7 @@
 use Prim.Native.Nat.{ℕ}
 use native.Mathlib.Omega.{arith}
 use mathlib.Core.Path.{◌≡◌, refl, ap, fun_ext}
-use borrow.Author.Tests.{le-leb}
+use borrow.Author.Tests.{le-leb, le-ltb}
 use mathlib.Core.List.{[], ◌∷◌}
 use Rattle.meaning.specs.declared.Time.{Time}
 use Rattle.meaning.specs.declared.Time.TheVariants.{At, Never}
@@ -45,6 +45,25 @@ pub first-whole : (times : StageTimes) (terms : Terms) (log : Log) (subject : Re
     → first times terms log subject e ≡ first_within times terms log subject (Minute 0) Endless e
 unfolding first first_within
 first-whole times terms log subject e = ap (λ (f : Record → Time). earliest f log) (fun_ext λ r. whole (happening times terms subject e r))
+
+-- what never happens is not from an edge on
+from_never : (l : Edge) → from_edge l Never ≡ Never
+unfolding from_edge from
+from_never (Minute l) = refl
+from_never Endless = refl
+
+-- nothing is before minute 0
+none_yet : (t : Time) → before_edge (Minute 0) t ≡ Never
+unfolding before_edge before
+none_yet (At n) = rw (le-ltb n 0 (omega arith))
+none_yet Never = refl
+
+-- so nothing happens there
+pub none-before : (times : StageTimes) (terms : Terms) (log : Log) (subject : Record) (l : Edge) (e : Event)
+    → first_within times terms log subject l (Minute 0) e ≡ Never
+unfolding first_within earliest earlier_of
+none-before times terms [] subject l e = refl
+none-before times terms (r ∷ log) subject l e = rw (none_yet (happening times terms subject e r), from_never l) (none-before times terms log subject l e)
 
 -- an open lower bound lets nothing in
 pub none_within : (times : StageTimes) (terms : Terms) (log : Log) (subject : Record) (u : Edge) (e : Event)

@@ -14,6 +14,7 @@ use Rattle.meaning.specs.declared.Event.{Event}
 use Rattle.meaning.specs.declared.Event.TheVariants.{Kind, StageOf}
 use Rattle.meaning.specs.declared.Bound.{Bound}
 use Rattle.meaning.specs.declared.Bound.TheVariants.{Plain, Plus, Minus, Open}
+use Rattle.meaning.specs.declared.Leaf.{Leaf}
 use Rattle.meaning.specs.declared.CountLeaf.{CountLeaf}
 use Rattle.meaning.specs.declared.Atom.{Atom}
 use Rattle.meaning.specs.declared.Atom.TheVariants.{Happens, Counts}
@@ -25,7 +26,7 @@ use Rattle.meaning.specs.Time.{later_of, before, cut, last_minute}
 use Rattle.meaning.specs.Stages.{stages}
 use Rattle.meaning.specs.Terms.{Terms, Expr, leaf, and, or, except, always, rank}
 use Rattle.meaning.specs.Log.{Record, Log}
-use Rattle.meaning.specs.Meaning.{StageTimes, cited, earliest, reached, time_by, happening, first, first_within, known, leaf_occurrence, failure_at, leaf_failure, count_time, times_of, stage_step, times_within, stage_time}
+use Rattle.meaning.specs.Meaning.{StageTimes, cited, earliest, reached, time_by, happening, first, first_within, known, leaf_occurrence, failure_at, failure_at_end, first_before, early_failure, leaf_failure, count_time, times_of, stage_step, times_within, stage_time}
 use Rattle.meaning.specs.Rows.{row_of, row_at, is_subject, subject_rows, timed_rows}
 use Rattle.meaning.proofs.ListLaws.{all-flat_map, all-each}
 use Rattle.meaning.proofs.TimeLaws.{before-lt, before-le, Side, early, late, side, before-later, before-earlier, before-once_known, before-if_never, before-only_if, before-never}
@@ -98,13 +99,22 @@ module _ (m : ℕ) (past : last_minute < m) where
     unfolding failure_at
     failure_at-fits lower u e = simp (before-if_never, before-once_known, before-never, known-fits, reached-fits)
 
+    first_before-fits : (l : Edge) (e : Event) → before m (first_before times terms log subject l e) ≡ first_before times terms log subject l e
+    unfolding first_before
+    first_before-fits (Minute l) e = within-fits (Minute 0) (Minute l) e
+    first_before-fits Endless e = before-never m
+
+    leaf_failure-fits : (x : Leaf) → before m (leaf_failure times terms log subject x) ≡ leaf_failure times terms log subject x
+    unfolding leaf_failure failure_at_end early_failure
+    leaf_failure-fits x = simp (before-earlier, before-only_if, before-once_known, known-fits, failure_at-fits, first_before-fits)
+
     count_time-fits : (passes : ℕ → Bool) (x : CountLeaf) → before m (count_time times terms log subject passes x) ≡ count_time times terms log subject passes x
     unfolding count_time
     count_time-fits passes x = simp (before-once_known, before-only_if, known-fits, reached-fits)
 
     times_of-fits : (x : Expr Atom) → Related (Fits m) (times_of times terms log subject x) (times_of times terms log subject x)
-    unfolding times_of leaf_occurrence leaf_failure
-    times_of-fits (leaf (Happens x)) = (simp (before-once_known, known-fits, within-fits), simp (before-once_known, known-fits, failure_at-fits))
+    unfolding times_of leaf_occurrence
+    times_of-fits (leaf (Happens x)) = (simp (before-once_known, known-fits, within-fits), leaf_failure-fits x)
     times_of-fits (leaf (Counts x)) = (count_time-fits _ x, count_time-fits _ x)
     times_of-fits (and a b) = and-related (Fits m) (fits_kept m) _ _ _ _ (times_of-fits a) (times_of-fits b)
     times_of-fits (or a b) = or-related (Fits m) (fits_kept m) _ _ _ _ (times_of-fits a) (times_of-fits b)

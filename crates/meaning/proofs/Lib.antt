@@ -5,7 +5,7 @@ pub mod MemberLaws
 pub mod TimeLaws
 pub mod EdgeLaws
 pub mod GatherLaws
-pub mod NeverBoth
+pub mod CorrelateLaws
 pub mod BoundLaws
 pub mod RelatedTimes
 pub mod StrikeLaws
@@ -14,6 +14,8 @@ pub mod Equation
 pub mod LastMinute
 pub mod RowLaws
 pub mod EntryLaws
+pub mod Once
+pub mod NeverBoth
 pub mod SameBefore
 pub mod RowsSame
 pub mod Rearranged

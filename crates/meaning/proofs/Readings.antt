@@ -1,8 +1,8 @@
 -- Words of document 01 that could be read in a second way and that its sample leaves open, as far as they are about terms and records, not about
 -- bytes: each case is a log under terms, given as data, beside the rows that the words give, closed by computation. A1 to A13 number these readings.
--- Beside them stand counts (document 02, wish 1), records in order of arrival with stamps in any order (wish 3), the connectives, each type of norm,
--- each sign of a bound, citations, the order of rows, and what refusals 9 and 16 ask of records. The expected outcomes are written from the
--- documents. Assumes nothing.
+-- Beside them stand counts (document 02, wish 1), records in order of arrival with stamps in any order (wish 3), events that come once (wish 4), the
+-- connectives, each type of norm, each sign of a bound, citations, the order of rows, and what refusals 9 and 16 ask of records. The expected
+-- outcomes are written from the documents. Assumes nothing.
 use Prim.Native.Nat.{ℕ}
 use mathlib.Core.Path.{refl}
 use mathlib.Core.Bool.{Bool, true, false}
@@ -58,7 +58,7 @@ leaf event lower upper = terms.leaf (Happens (record { event = event; lower = lo
 abbrev more_than : ℕ → ℕ → Bound → Bound → Expr Atom
 more_than threshold kind lower upper = terms.leaf (Counts (record { kind = kind; threshold = threshold; lower = lower; upper = upper }))
 
--- the events: kinds S, E and F, and a stage of the schema j
+-- the events: kinds S, E, F and O, and a stage of the schema j
 abbrev S : Event
 S = Kind 0
 
@@ -67,6 +67,9 @@ E = Kind 1
 
 abbrev F : Event
 F = Kind 2
+
+abbrev O : Event
+O = Kind 3
 
 abbrev created : ℕ → Event
 created j = StageOf Created j
@@ -83,9 +86,9 @@ discharged j = StageOf Discharged j
 abbrev violated : ℕ → Event
 violated j = StageOf Violated j
 
--- S carries attribute 0, its key. E and F carry it too, and a key of their own, so that they recur
+-- S carries attribute 0, its key. E and F carry it too, and a key of their own, so that they recur; O carries it alone, so that it comes once for an S
 abbrev kinds : List EventKind
-kinds = kind 0b1 0 ∷ kind 0b11 1 ∷ kind 0b101 2 ∷ []
+kinds = kind 0b1 0 ∷ kind 0b11 1 ∷ kind 0b101 2 ∷ kind 0b1 0 ∷ []
 
 -- one norm on S
 abbrev norm : NormType → Expr Atom → Expr Atom → Expr Atom → List Schema
@@ -95,7 +98,7 @@ norm type create detach consequent = schema type 0 0 0 create detach consequent
 abbrev event : ℕ → ℕ → List ℕ → Log
 event kind stamp values = record { kind = kind; stamp = stamp; values = values } ∷ []
 
--- S with key 7; E and F of that S, each with its stamp for a key
+-- S with key 7; E and F of that S, each with its stamp for a key; its O
 abbrev s_at : ℕ → Log
 s_at t = event 0 t (7 ∷ [])
 
@@ -104,6 +107,9 @@ e_at t = event 1 t (7 ∷ t ∷ [])
 
 abbrev f_at : ℕ → Log
 f_at t = event 2 t (7 ∷ t ∷ [])
+
+abbrev o_at : ℕ → Log
+o_at t = event 3 t (7 ∷ [])
 
 -- a clause that never occurs and fails at 0; one that neither occurs nor fails as long as there is no F
 abbrev nothing : Expr Atom
@@ -119,7 +125,7 @@ E10 = leaf E (Plain 0) (Plain 10)
 abbrev F20 : Expr Atom
 F20 = leaf F (Plain 0) (Plain 20)
 
--- the rows of a log at a moment, under schemas over kinds; over S, E and F; and at the last moment there is
+-- the rows of a log at a moment, under schemas over kinds; over S, E, F and O; and at the last moment there is
 abbrev reported_under : List EventKind → List Schema → ℕ → Log → Shown
 reported_under ks schemas m log = rows (report_rows (record { kinds = ks; schemas = schemas }) log m)
 
@@ -226,11 +232,11 @@ leaf_cases =
     ∷ case (reported_at 8589934592 (end_of_time 2) (s_at 2147483647)) (end_rows [])
     -- A7: a window looks at all happenings, not at the first alone
     ∷ case (detaching (leaf E (Plain 10) (Plain 20)) (e_at 5 ++ e_at 12)) (occurs_at 12)
-    -- A8: an unknown upper bound settles nothing
+    -- A8: an unknown upper bound is no end: what recurs neither occurs nor fails by it
     ∷ case (detaching (leaf E (Plain 0) (Plus F 9)) (e_at 5)) does_neither
     ∷ case (detaching (leaf E (Plain 0) (Plus F 9)) []) does_neither
     ∷ case (detaching (leaf E (Plain 0) (Plus F 9)) (e_at 5 ++ f_at 8)) (occurs_at 8)
-    -- A9: what is open cannot fail, so nothing follows from its failure
+    -- A9: what is open does not fail at its end, so where its event recurs nothing follows from its failure
     ∷ case (detaching (except (leaf E (Plain 0) (Plain 9)) (leaf F (Plain 0) Open)) (e_at 3)) does_neither
     ∷ case (detaching (except (leaf E (Plain 0) (Plain 9)) (leaf F (Plain 0) Open)) (f_at 4)) (fails_at 4)
     -- A10: the discharge of a commitment does not ask for its creation
@@ -245,10 +251,13 @@ leaf_cases =
     -- A11: a window whose lower bound is at or past its upper is empty
     ∷ case (detaching (leaf E (Plain 10) (Plain 5)) (e_at 7)) (fails_at 5)
     ∷ case (detaching (leaf E (Plain 10) (Plain 5)) (e_at 3)) (fails_at 5)
-    -- A12: an event of the subject's own kind is the subject's own
+    -- A12: an event of the subject's own kind is the subject's own; it comes once, so one before the window fails at once (wish 4)
     ∷ case
     (reported (norm Authorization always (leaf S (Plain 3) (Plain 9)) nothing) (s_at 1 ++ event 0 5 (8 ∷ [])))
-    (rows (row Created 1 ∷ row Expired 9 ∷ row_on 0 8 Created 5 ∷ row_on 0 8 Detached 5 ∷ []))
+    (rows (row Created 1 ∷ row Expired 1 ∷ row_on 0 8 Created 5 ∷ row_on 0 8 Detached 5 ∷ []))
+    ∷ case
+    (reported (norm Authorization always (leaf S (Plain 3) (Plain 9)) nothing) (s_at 5 ++ event 0 1 (8 ∷ [])))
+    (rows (row Created 5 ∷ row Detached 5 ∷ row_on 0 8 Created 1 ∷ row_on 0 8 Expired 1 ∷ []))
     -- correlation takes every shared attribute: two, of which one or the other differs; and attribute 15
     ∷ case (sharing 0b11 0b111 (event 0 0 (7 ∷ 8 ∷ []) ++ event 1 5 (7 ∷ 8 ∷ 1 ∷ []))) (occurs_at 5)
     ∷ case (sharing 0b11 0b111 (event 0 0 (7 ∷ 8 ∷ []) ++ event 1 5 (7 ∷ 9 ∷ 1 ∷ []))) (fails_at 10)
@@ -481,6 +490,114 @@ arrival_cases =
     ∷ case (reported_at 10 any_E (e_at 10 ++ s_at 0)) (rows (row Created 0 ∷ []))
     ∷ []
 
+-- O from a minute on, without an end
+abbrev O_from : ℕ → Expr Atom
+O_from n = leaf O (Plain n) Open
+
+-- events that come once: before the window they fail a leaf at once (document 02, wish 4)
+abbrev once_cases : List (Case Shown)
+once_cases =
+    -- before the lower bound: at the happening, not at the bound; at the bound is not early
+    case (detaching (O_from 10) (o_at 3)) (fails_at 3)
+    ∷ case (detaching (O_from 3) (o_at 3)) (occurs_at 3)
+    ∷ case (detaching (O_from 3) (o_at 2)) (fails_at 2)
+    ∷ case (detaching (O_from 10) []) does_neither
+    -- nothing is before minute 0
+    ∷ case (detaching (O_from 0) (o_at 0)) (occurs_at 0)
+    -- nor before an open lower bound: the leaf that stands for one that cannot be read has it
+    ∷ case (detaching (leaf O Open Open) (o_at 3)) does_neither
+    -- the earlier of the two failures
+    ∷ case (detaching (leaf O (Plain 10) (Plain 20)) (o_at 3)) (fails_at 3)
+    ∷ case (detaching (leaf O (Plain 10) (Plain 20)) (o_at 20)) (fails_at 20)
+    ∷ case (detaching (leaf O (Plain 10) (Plain 2)) (o_at 3)) (fails_at 2)
+    ∷ case (detaching (leaf O (Plain 10) (Plain 5)) (o_at 3)) (fails_at 3)
+    -- the lower bound has to be known, and its known-time counts
+    ∷ case (detaching (leaf O (Plus F 5) Open) (o_at 3 ++ f_at 8)) (fails_at 8)
+    ∷ case (detaching (leaf O (Plus F 5) Open) (f_at 8 ++ o_at 3)) (fails_at 8)
+    ∷ case (detaching (leaf O (Plus F 5) Open) (o_at 3)) does_neither
+    ∷ case (detaching (leaf O (Plus F 5) Open) (f_at 8 ++ o_at 11)) (fails_at 11)
+    ∷ case (detaching (leaf O (Minus F 3) Open) (o_at 3 ++ f_at 8)) (fails_at 8)
+    ∷ case (detaching (leaf O (Minus F 3) Open) (o_at 5 ++ f_at 8)) (occurs_at 8)
+    -- below zero is zero
+    ∷ case (detaching (leaf O (Minus F 9) Open) (o_at 3 ++ f_at 5)) (occurs_at 5)
+    -- known late, with a closed upper bound: the earlier failure is the early one, then the one at the upper bound
+    ∷ case (detaching (leaf O (Plus F 5) (Plain 20)) (o_at 3 ++ f_at 8)) (fails_at 8)
+    ∷ case (detaching (leaf O (Plus F 5) (Plain 6)) (o_at 7 ++ f_at 8)) (fails_at 6)
+    -- an upper bound that is not known, or known late, does not delay it
+    ∷ case (detaching (leaf O (Plain 10) (Plus F 5)) (o_at 3)) (fails_at 3)
+    ∷ case (detaching (leaf O (Plain 10) (Plus F 5)) (o_at 3 ++ f_at 30)) (fails_at 3)
+    -- what recurs does not fail early; the events of bounds are not judged
+    ∷ case (detaching (leaf E (Plain 10) Open) (e_at 3)) does_neither
+    ∷ case (detaching (leaf E (Plus O 5) Open) (o_at 3 ++ e_at 4)) does_neither
+    ∷ case (detaching (leaf E (Plain 10) (Plus O 5)) (o_at 3 ++ e_at 4)) (fails_at 8)
+    -- no stage lies before its subject
+    ∷ case (reported (norm Authorization always (O_from 10) nothing) (o_at 3 ++ s_at 6)) (rows (row Created 6 ∷ row Expired 6 ∷ []))
+    -- the O of another S is nobody's
+    ∷ case (detaching (O_from 10) (event 3 3 (8 ∷ []))) does_neither
+    ∷ case (detaching (O_from 10) (event 3 3 (8 ∷ []) ++ o_at 12)) (occurs_at 12)
+    -- the subject's own kind comes once too
+    ∷ case
+    (reported (norm Authorization always (leaf S (Plus S 5) Open) nothing) (s_at 4))
+    (rows (row Created 4 ∷ row Expired 4 ∷ []))
+    -- except: an early failure lets it occur
+    ∷ case (detaching (except always (O_from 10)) (o_at 3)) (occurs_at 3)
+    ∷ case (detaching (except always (O_from 10)) (o_at 12)) (fails_at 12)
+    -- a count fails when its window has ended, and not without an end
+    ∷ case (detaching (more_than 0 3 (Plain 10) (Plain 20)) (o_at 3)) (fails_at 20)
+    ∷ case (detaching (more_than 0 3 (Plain 10) (Plus F 5)) (o_at 3)) does_neither
+    ∷ []
+
+-- authorizations: schema 0 on a kind, with that create clause, and not detached before 100; schema 1 on S, whose detach clause cites it
+abbrev cited_on : ℕ → Expr Atom → Expr Atom → List Schema
+cited_on kind create clause = schema Authorization kind 0 0 create (leaf F (Plain 100) Open) nothing ++ norm Authorization always clause nothing
+
+-- schema 0 is created for an E, at its stamp, which is its key
+abbrev created_for_e : ℕ → Row
+created_for_e t = record { stage = Created; schema = 0; key = t; privileged = 7; liable = 7; time = t }
+
+-- created of schema 0, from 10 on
+abbrev created_from_10 : Expr Atom
+created_from_10 = leaf (created 0) (Plain 10) Open
+
+-- S carries attribute 0, its key, and 1. P, kind 1, carries 1 alone, its key. Q, kind 2, and R, kind 3, carry 0, 1 and 2; the key is 2 for Q, 1 for R.
+-- The detach clause is the event from 10 on. S at 0 with 7 and 8
+abbrev lent_key : Event → Log → Shown
+lent_key e log =
+    reported_under
+    (kind 0b11 0 ∷ kind 0b10 1 ∷ kind 0b111 2 ∷ kind 0b111 1 ∷ [])
+    (norm Authorization always (leaf e (Plain 10) Open) nothing)
+    last_moment
+    (event 0 0 (7 ∷ 8 ∷ []) ++ log)
+
+-- which key tells that an event comes once, and which kind a stage is judged by (document 02, wish 4)
+abbrev once_kind_cases : List (Case Shown)
+once_kind_cases =
+    -- the key of the event's kind, where the subject carries it; it need not be the subject's own key
+    case (lent_key (Kind 1) (event 1 3 (8 ∷ []))) (fails_at 3)
+    ∷ case (lent_key (Kind 3) (event 3 3 (7 ∷ 8 ∷ 5 ∷ []))) (fails_at 3)
+    -- sharing attributes with the subject is not enough
+    ∷ case (lent_key (Kind 2) (event 2 3 (7 ∷ 8 ∷ 5 ∷ []))) does_neither
+    -- it still has to correlate
+    ∷ case (lent_key (Kind 1) (event 1 3 (9 ∷ []))) does_neither
+    ∷ case (lent_key (Kind 3) (event 3 3 (9 ∷ 8 ∷ 5 ∷ []))) does_neither
+    -- a stage is judged by its schema's subject kind: S, O, and E, which recurs
+    ∷ case
+    (reported (cited_on 0 waiting created_from_10) (s_at 0 ++ f_at 3))
+    (rows (row Created 3 ∷ row_on 1 7 Created 0 ∷ row_on 1 7 Expired 3 ∷ []))
+    ∷ case
+    (reported (cited_on 0 waiting created_from_10) (s_at 0 ++ f_at 12))
+    (rows (row Created 12 ∷ row_on 1 7 Created 0 ∷ row_on 1 7 Detached 12 ∷ []))
+    ∷ case
+    (reported (cited_on 3 always created_from_10) (s_at 0 ++ o_at 3))
+    (rows (row Created 3 ∷ row_on 1 7 Created 0 ∷ row_on 1 7 Expired 3 ∷ []))
+    ∷ case (reported (cited_on 1 always created_from_10) (s_at 0 ++ e_at 3)) (rows (created_for_e 3 ∷ row_on 1 7 Created 0 ∷ []))
+    ∷ case
+    (reported (cited_on 1 always created_from_10) (s_at 0 ++ e_at 3 ++ e_at 12))
+    (rows (created_for_e 3 ∷ created_for_e 12 ∷ row_on 1 7 Created 0 ∷ row_on 1 7 Detached 12 ∷ []))
+    -- A6: a lower bound past the last minute still has a happening before it
+    ∷ case (reported (at_the_end (leaf (violated 0) (Plus (violated 0) 1) Open)) (s_at 2147483647)) (end_rows (row_on 1 7 Expired 4294967294 ∷ []))
+    ∷ []
+
 -- terms of one norm on S without leaves, for what is asked of records alone
 abbrev good : Terms
 good = record { kinds = kinds; schemas = norm Authorization always always always }
@@ -542,14 +659,22 @@ arrival_hold : Hold arrival_cases
 unfolding computes
 arrival_hold = refl
 
+once_hold : Hold once_cases
+unfolding computes
+once_hold = refl
+
+once_kind_hold : Hold once_kind_cases
+unfolding computes
+once_kind_hold = refl
+
 record_hold : Hold record_cases
 unfolding computes
 record_hold = refl
 
 -- the parts of the second list that are about terms and records
 abbrev pub parts : List (List (Case Shown))
-parts = leaf_cases ∷ count_cases ∷ connective_cases ∷ type_cases ∷ stage_cases ∷ row_cases ∷ arrival_cases ∷ record_cases ∷ []
+parts = leaf_cases ∷ count_cases ∷ connective_cases ∷ type_cases ∷ stage_cases ∷ row_cases ∷ arrival_cases ∷ once_cases ∷ once_kind_cases ∷ record_cases ∷ []
 
 -- each gives what the document's words say; the parts are computed one by one, which is quicker than all at once
 pub readings : Hold (flatten parts)
-readings = hold-all parts (leaf_hold, (count_hold, (connective_hold, (type_hold, (stage_hold, (row_hold, (arrival_hold, (record_hold, tt))))))))
+readings = hold-all parts (leaf_hold, (count_hold, (connective_hold, (type_hold, (stage_hold, (row_hold, (arrival_hold, (once_hold, (once_kind_hold, (record_hold, tt))))))))))

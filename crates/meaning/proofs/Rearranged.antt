@@ -19,12 +19,13 @@ use Rattle.meaning.specs.declared.Bound.TheVariants.{Plain, Plus, Minus, Open}
 use Rattle.meaning.specs.declared.Atom.{Atom}
 use Rattle.meaning.specs.declared.Atom.TheVariants.{Happens, Counts}
 use Rattle.meaning.specs.declared.Edge.{Edge}
+use Rattle.meaning.specs.declared.Edge.TheVariants.{Minute, Endless}
 use Rattle.meaning.specs.declared.Row.{Row}
 use Rattle.meaning.specs.Lists.{numbers_from, any_of}
 use Rattle.meaning.specs.Stages.{stages}
 use Rattle.meaning.specs.Terms.{Terms, Expr, leaf, and, or, except, always, rank}
 use Rattle.meaning.specs.Log.{Record, Log, key_of, has_key, same_key, key_repeats}
-use Rattle.meaning.specs.Meaning.{StageTimes, first, first_within, known, leaf_occurrence, failure_at, leaf_failure, count_within, count_time, times_of, stage_step, times_within, stage_time}
+use Rattle.meaning.specs.Meaning.{StageTimes, first, first_within, known, leaf_occurrence, failure_at, failure_at_end, first_before, early_failure, leaf_failure, count_within, count_time, times_of, stage_step, times_within, stage_time}
 use Rattle.meaning.specs.Rows.{row_of, row_at, is_subject, subject_rows, timed_rows, report_rows, find, is_sought, subject_of, entries_of}
 use Rattle.meaning.proofs.BoolLaws.{or-false, or-across, eqb-swap}
 use Rattle.meaning.proofs.ListLaws.{flat_map-each, flat_map-moved}
@@ -48,6 +49,12 @@ module _ {log log' : Log} (moved : Permᴰ log log') (terms : Terms) where
     unfolding first_within
     within-moved l u e = gathers-moved (earliest-gathers _) moved
 
+    -- and before a lower edge
+    before-moved : (l : Edge) (e : Event) → first_before times terms log subject l e ≡ first_before times terms log' subject l e
+    unfolding first_before
+    before-moved (Minute l) e = within-moved (Minute 0) (Minute l) e
+    before-moved Endless e = refl
+
     -- how many records of a kind lie in one
     count-moved : (l u : Edge) (k : ℕ) → count_within times terms log subject l u k ≡ count_within times terms log' subject l u k
     unfolding count_within
@@ -55,8 +62,8 @@ module _ {log log' : Log} (moved : Permᴰ log log') (terms : Terms) where
 
     -- expressions
     times-moved : (x : Expr Atom) → times_of times terms log subject x ≡ times_of times terms log' subject x
-    unfolding times_of leaf_occurrence leaf_failure failure_at count_time
-    times-moved (leaf (Happens x)) = simp (known-moved, within-moved)
+    unfolding times_of leaf_occurrence leaf_failure failure_at_end failure_at early_failure count_time
+    times-moved (leaf (Happens x)) = simp (known-moved, within-moved, before-moved)
     times-moved (leaf (Counts c)) = simp (known-moved, count-moved)
     times-moved (and a b) = rw (times-moved a, times-moved b)
     times-moved (or a b) = rw (times-moved a, times-moved b)

@@ -167,14 +167,15 @@ row-exact terms log m x = rw report-order (there, here)
         (mem-subject_rows_at terms log m i.schema i.subject i.stage i.is-subject
         (rw i.says (mem-rows_at terms log m i.schema i.subject i.stage i.minute i.timed i.in-time))))
 
-same_key_lem : (terms : Terms) (q r : Record) → q.kind ≡ r.kind → key_of terms q ≡ key_of terms r → same_key terms q r ≡ true
+-- records of one kind with one key are told so
+pub same-key : (terms : Terms) (q r : Record) → q.kind ≡ r.kind → key_of terms q ≡ key_of terms r → same_key terms q r ≡ true
 unfolding same_key has_key
-same_key_lem terms q r a b = simp (eq-eqb q.kind r.kind a, eq-eqb (key_of terms q) (key_of terms r) b)
+same-key terms q r a b = simp (eq-eqb q.kind r.kind a, eq-eqb (key_of terms q) (key_of terms r) b)
 
 -- a record and a later one are not of one kind with one key
 later-differs : (terms : Terms) (r : Record) (log : Log) (q : Record) → any_of (same_key terms r) log ≡ false → Memᴰ q log
     → r.kind ≡ q.kind → key_of terms r ≡ key_of terms q → ⊥
-later-differs terms r log q e k a b = let z : ◌≡◌ {A = ℕ} 0 1 = cc (any_of-none (same_key terms r) log e k, same_key_lem terms r q a b) in omega arith
+later-differs terms r log q e k a b = let z : ◌≡◌ {A = ℕ} 0 1 = cc (any_of-none (same_key terms r) log e k, same-key terms r q a b) in omega arith
 
 -- In an accepted log one kind and key is one record.
 pub key-once : (terms : Terms) (log : Log) (q r : Record) → key_repeats terms log ≡ false → Memᴰ q log → Memᴰ r log

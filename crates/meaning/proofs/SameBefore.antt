@@ -24,7 +24,7 @@ use Rattle.meaning.specs.declared.Edge.TheVariants.{Minute, Endless}
 use Rattle.meaning.specs.Time.{later_of, before, only_if}
 use Rattle.meaning.specs.Terms.{Terms, Expr, leaf, and, or, except, always, schema_at, rank}
 use Rattle.meaning.specs.Log.{Record, Log}
-use Rattle.meaning.specs.Meaning.{StageTimes, cited, earliest, one, tally, from_edge, before_edge, reached, time_by, happening, first, first_within, known, leaf_occurrence, failure_at, leaf_failure, count_within, count_time, times_of, stage_step, times_within, stage_time}
+use Rattle.meaning.specs.Meaning.{StageTimes, cited, earliest, one, tally, from_edge, before_edge, reached, time_by, happening, first, first_within, known, leaf_occurrence, failure_at, failure_at_end, first_before, early_failure, leaf_failure, count_within, count_time, times_of, stage_step, times_within, stage_time}
 use Rattle.meaning.specs.Rows.{strike}
 use Rattle.meaning.proofs.TimeLaws.{Side, early, late, side, before-le, before-later, before-earlier, before-once_known, before-before, before-cut, before-never, before-if_never, if_never-never, before-only_if, only_if-never, once_known-never}
 use Rattle.meaning.proofs.EdgeLaws.{before-from_edge, before-before_edge, never-within}
@@ -160,9 +160,14 @@ module _ (m : ℕ) (terms : Terms) (subject : Record) (times times' : StageTimes
       go (near u h) = simp (before-if_never, before-once_known, known_same, within-equal)
       go (far u h) = simp (before-if_never, before-once_known, before-never, h, if_never-never, once_known-never)
 
+  first_before-same : (l : Edge) (e : Event) → before m (first_before times terms log subject l e) ≡ before m (first_before times' terms log' subject l e)
+  unfolding first_before
+  first_before-same (Minute l) e = within_same (Minute 0) (Minute l) e
+  first_before-same Endless e = refl
+
   leaf_failure-same : (x : Leaf) → before m (leaf_failure times terms log subject x) ≡ before m (leaf_failure times' terms log' subject x)
-  unfolding leaf_failure
-  leaf_failure-same x = simp (before-once_known, known_same, failure_at-same)
+  unfolding leaf_failure failure_at_end early_failure
+  leaf_failure-same x = simp (before-earlier, before-only_if, before-once_known, known_same, failure_at-same, first_before-same)
 
   -- and as many records of a kind
   count-equal : (l : Edge) (u : ℕ) → u ≤ m → (k : ℕ) → count_within times terms log subject l (Minute u) k ≡ count_within times' terms log' subject l (Minute u) k

@@ -1,5 +1,5 @@
 -- When things happen, for one subject: events, bounds, leaves, expressions and the five stages.
--- Document 01, 'When things happen', and 'Citation' of 'Terms and log'; document 02, wish 1. Assumes nothing: these are definitions.
+-- Document 01, 'When things happen', and 'Citation' of 'Terms and log'; document 02, wishes 1 and 4. Assumes nothing: these are definitions.
 use Rattle.std.specs.Prelude.{ℕ, zero, suc, ◌+◌, ◌-◌, ◌*◌, Bool, ◌&&◌, [], ◌∷◌, eqb, leb, ltb}
 use Rattle.meaning.specs.declared.Time.{Time}
 use Rattle.meaning.specs.declared.Time.TheVariants.{At, Never}
@@ -19,8 +19,8 @@ use Rattle.meaning.specs.declared.Edge.{Edge}
 use Rattle.meaning.specs.declared.Edge.TheVariants.{Minute, Endless}
 use Rattle.meaning.specs.declared.Times.{Times}
 use Rattle.meaning.specs.Time.{later_of, earlier_of, before, from, once_known, if_never, only_if, cut}
-use Rattle.meaning.specs.Terms.{Terms, Expr, leaf, and, or, except, always, kind_of, schema_at, rank}
-use Rattle.meaning.specs.Log.{Record, Log, correlate}
+use Rattle.meaning.specs.Terms.{Terms, Expr, leaf, and, or, except, always, kind_at, kind_of, schema_at, rank}
+use Rattle.meaning.specs.Log.{Record, Log, carries, correlate}
 
 -- times of stages: of a stage of a schema, for a subject (stages)
 abbrev pub StageTimes : Type 0
@@ -76,6 +76,11 @@ time_by times (StageOf s j) r = times s j r
 unfoldable pub happening : StageTimes → Terms → Record → Event → Record → Time
 happening times terms subject e r = only_if (eqb r.kind (kind_of terms e) && correlate terms subject r) (time_by times e r)
 
+-- an event comes once for a subject whose kind carries the key attribute of the event's kind, since no key repeats; a stage's kind is its schema's
+-- subject kind (wish 4)
+unfoldable pub comes_once : Terms → Record → Event → Bool
+comes_once terms subject e = carries (kind_at terms subject.kind).mask (kind_at terms (kind_of terms e)).key
+
 -- and: both are needed, one failure is enough (expressions)
 unfoldable pub and_of : Times → Times → Times
 and_of a b = record { occurs = later_of a.occurs b.occurs; fails = earlier_of a.fails b.fails }
@@ -118,9 +123,22 @@ module _ (times : StageTimes) (terms : Terms) (log : Log) (subject : Record) whe
       if_never (first_within (Minute 0) u e) (reached u)
       (once_known (known lower) λ g. if_never (first_within (edge_of lower g) u e) (reached u) Never)
 
-  -- no failure without a known upper bound, nor before it is known (leaf fails)
+  -- at the end, the upper bound: no such failure without a known one, nor before that bound is known (leaf fails)
+  unfoldable pub failure_at_end : Leaf → Time
+  failure_at_end x = once_known (known x.upper) λ h. failure_at x.lower (edge_of x.upper h) x.event
+
+  -- the earliest happening before the lower edge; before an open one, which accepted terms do not have, there is none (wish 4)
+  unfoldable pub first_before : Edge → Event → Time
+  first_before (Minute l) e = first_within (Minute 0) (Minute l) e
+  first_before Endless e = Never
+
+  -- early, whatever the upper bound: an event that comes once happens before the lower one; no such failure before that bound is known (wish 4)
+  unfoldable pub early_failure : Leaf → Time
+  early_failure x = only_if (comes_once terms subject x.event) (once_known (known x.lower) λ g. first_before (edge_of x.lower g) x.event)
+
+  -- a leaf fails at its end or early, whichever is first (leaf fails; wish 4)
   unfoldable pub leaf_failure : Leaf → Time
-  leaf_failure x = once_known (known x.upper) λ h. failure_at x.lower (edge_of x.upper h) x.event
+  leaf_failure x = earlier_of (failure_at_end x) (early_failure x)
 
   -- how many records of a kind lie in a window; a stage is never counted (count)
   unfoldable pub count_within : Edge → Edge → ℕ → ℕ

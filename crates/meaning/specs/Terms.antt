@@ -67,7 +67,7 @@ schema_at terms j = get_or terms.schemas j (record {
   consequent = always;
 })
 
--- the kind of the records by which an event happens (table, 5)
+-- the kind of the records by which an event happens (happenings; table, 5; wish 4)
 unfoldable pub kind_of : Terms → Event → ℕ
 kind_of terms (Kind k) = k
 kind_of terms (StageOf s j) = (schema_at terms j).subject

@@ -1,5 +1,5 @@
 -- Times: a minute, or none. `Time` is the enum of the code; its minute is any natural number here.
--- Document 01, 'When things happen'; document 02, wish 1. Assumes nothing: these are definitions.
+-- Document 01, 'When things happen'; document 02, wishes 1 and 4. Assumes nothing: these are definitions.
 use Rattle.std.specs.Prelude.{ℕ, min, max, Bool, true, false, cond, leb, ltb}
 use Rattle.meaning.specs.declared.Time.{Time}
 use Rattle.meaning.specs.declared.Time.TheVariants.{At, Never}
@@ -36,7 +36,7 @@ unfoldable pub if_never : Time → Time → Time → Time
 if_never Never a b = a
 if_never (At n) a b = b
 
--- a time where a test holds, else none (happenings, Citation, count)
+-- a time where a test holds, else none (happenings, Citation, count, wish 4)
 unfoldable pub only_if : Bool → Time → Time
 only_if true t = t
 only_if false t = Never

@@ -1,11 +1,14 @@
 -- The functions of the cycle meet their contracts, their calls within the cycle being smaller. Assumes nothing.
 use Prim.Native.Nat.{ℕ}
 use native.Mathlib.Omega.{arith}
-use mathlib.Core.Path.{◌≡◌, sym, ◌∙◌}
+use mathlib.Core.Path.{◌≡◌, ap, sym, ◌∙◌}
 use mathlib.Core.List.{◌∷◌}
 use mathlib.Core.Logic.{inl, inr}
 use borrow.Author.Rules.{rules}
+use Rattle.meaning.specs.declared.Bound.TheVariants.{Plain}
 use Rattle.meaning.specs.Terms.{kind_of}
+use Rattle.meaning.specs.Meaning.{cited, stage_time}
+use Rattle.meaning.proofs.Once.{HappensOnce}
 use Rattle.meaning.proofs.Equation.{rank-least}
 use Rattle.format.specs.Grammar.{expr_limit}
 use Rattle.format.specs.Fields.{terms_of}
@@ -14,19 +17,28 @@ use Rattle.index.specs.Walk.{marked_left}
 use Rattle.marks.specs.Marks.{Marks}
 use Rattle.marks.proofs.Scans.{OfKind, of-mark}
 use Rattle.times.specs.NeededTimes.{needed_of}
+use Rattle.evaluate.specs.declared.clause.Clause.{Clause}
+use Rattle.evaluate.specs.Seen.{log_in, record_in, under}
+use Rattle.evaluate.proofs.Happens.{happens-once}
 use Rattle.evaluate.proofs.Expressions.{occurs-times, stage-here}
-use Rattle.evaluate.proofs.Leaves.{event-never, plus-known, count-more, count-few, fails-empty, fails_met, fails-missed, occurs}
+use Rattle.evaluate.proofs.Leaves.{event-never, plus-known, count-more, count-few, only-here, early-zero, early-recurs, early-never, early-no-lower, early-open, early-first, fails-empty, fails_met, fails-missed, occurs}
 use Rattle.evaluate.proofs.Scan.{scan-start, scan-take}
 use Rattle.evaluate.proofs.Weights.{consequent-below}
 use Rattle.evaluate.proofs.+stage_times.Goals.{first_within-After-into_iter-at-iterator, first_within-In-Some}
 use Rattle.evaluate.proofs.+stage_times.Goals as goal
+
+-- for a call's clause and subject what comes once happens by one record at most
+call-once : (clause : Clause) → let call = clause.subject.call.now in
+    HappensOnce (cited clause.rank (stage_time (terms_of call.terms.now) (log_in call.terms.now call.bytes.now))) (terms_of call.terms.now) (log_in call.terms.now call.bytes.now)
+    (record_in call.terms.now call.bytes.now clause.subject.at)
+call-once clause = let call = clause.subject.call.now in happens-once call.terms.now call.bytes.now clause.rank clause.subject.at call.kinds call.once
 
 -- clause_times: the times of a clause, as many as are needed
 
 pub clause_times-returns-in-At : goal.clause_times-returns-in-At
 unfolding needed_of expr_limit
 clause_times-returns-in-At t c =
-    rw c.in-Both.is (occurs-times _ _ _ _ _ (rw (c.start-at.ensures, c.places.ensures.1) at (sym c.occurrence-in-Both.ensures ∙ c.in-At.is)))
+    rw c.in-Both.is (occurs-times _ _ _ _ _ (call-once c.args.clause.now) (rw (c.start-at.ensures, c.places.ensures.1) at (sym c.occurrence-in-Both.ensures ∙ c.in-At.is)))
 
 -- count_times: the times of a count
 
@@ -39,6 +51,57 @@ pub count_times-returns-else-count-number : goal.count_times-returns-else-count-
 count_times-returns-else-count-number t c =
     count-few _ _ _ _ _ c.known_bound.ensures c.in-Some.is c.known_bound-2.ensures c.in-Some-known_bound.is
     c.reached-ended.ensures c.later_of.ensures c.later_of-settled.ensures c.count_within-number.ensures c.if-count-number.false
+
+-- early_failure: when a leaf fails before its lower bound
+
+pub early_failure-returns-in_default-first : goal.early_failure-returns-in_default-first
+early_failure-returns-in_default-first t c =
+    let only = rw c.in-Some.is at c.requires in
+    early-never _ _ _ _ _ (call-once c.args.clause.now) only.0 only.1 c.in_default-first.is
+
+pub early_failure-returns-in_default-known_bound : goal.early_failure-returns-in_default-known_bound
+early_failure-returns-in_default-known_bound t c =
+    let only = rw c.in-Some.is at c.requires in
+    early-no-lower _ _ _ _ _ (call-once c.args.clause.now) only.0 only.1 c.known_bound.ensures c.in_default-known_bound.is
+
+pub early_failure-returns-in-Minute : goal.early_failure-returns-in-Minute
+early_failure-returns-in-Minute t c =
+    let only = rw c.in-Some.is at c.requires in
+    early-first _ _ _ _ _ (call-once c.args.clause.now) only.0 only.1 c.known_bound.ensures c.in-Some-known_bound.is c.in-Minute.is c.within.ensures c.later_of.ensures
+
+pub early_failure-returns-in-Endless : goal.early_failure-returns-in-Endless
+early_failure-returns-in-Endless t c =
+    let only = rw c.in-Some.is at c.requires in
+    early-open _ _ _ _ _ (call-once c.args.clause.now) only.0 only.1 c.known_bound.ensures c.in-Some-known_bound.is c.in-Endless.is
+
+-- failure_at_end: when a leaf fails at its upper bound
+
+-- nothing is before the upper bound
+pub failure_at_end-returns-in_default-first_of : goal.failure_at_end-returns-in_default-first_of
+failure_at_end-returns-in_default-first_of t c =
+    fails-empty _ _ _ _ _ c.known_bound.ensures c.in-Some.is c.reached.ensures c.in-At.is
+    c.first_of.ensures c.in_default-first_of.is c.later_of.ensures
+
+-- something is in the window
+pub failure_at_end-returns-in-At-first_of-2 : goal.failure_at_end-returns-in-At-first_of-2
+failure_at_end-returns-in-At-first_of-2 t c =
+    fails_met _ _ _ _ _ c.known_bound.ensures c.in-Some.is c.reached.ensures c.in-At.is
+    c.first_of.ensures c.in-At-first_of.is c.known_bound-2.ensures c.in-Some-known_bound.is
+    c.first_of-2.ensures c.in-At-first_of-2.is
+
+-- something is before the upper bound, nothing in the window
+pub failure_at_end-returns-in-Never : goal.failure_at_end-returns-in-Never
+failure_at_end-returns-in-Never t c =
+    fails-missed _ _ _ _ _ c.known_bound.ensures c.in-Some.is c.reached.ensures c.in-At.is
+    c.first_of.ensures c.in-At-first_of.is c.known_bound-2.ensures c.in-Some-known_bound.is
+    c.first_of-2.ensures c.in-Never.is c.later_of-in-Never.ensures c.later_of-in-Never-2.ensures
+
+-- first_of: what is in a window of an event whose only happening is at hand
+
+pub first_of-returns-in-Some : goal.first_of-returns-in-Some
+first_of-returns-in-Some t c =
+    let only = rw c.in-Some.is at c.requires in
+    only-here _ _ _ _ c.args.leaf (call-once c.args.clause.now) only.0 only.1 c.args.window.lower c.args.window.upper c.within.ensures
 
 -- first_within: the earliest happening in a window: a walk along the chain of the subject's mark
 
@@ -90,28 +153,6 @@ known_bound-returns-in_default-first t c = event-never _ _ _ _ _ _ _ c.first-in-
 pub known_bound-returns-in-At : goal.known_bound-returns-in-At
 known_bound-returns-in-At t c = search (plus-known, rules)
 
--- leaf_failure: when a leaf fails
-
--- nothing is before the upper bound
-pub leaf_failure-returns-in_default-first_within : goal.leaf_failure-returns-in_default-first_within
-leaf_failure-returns-in_default-first_within t c =
-    fails-empty _ _ _ _ _ c.known_bound.ensures c.in-Some.is c.reached.ensures c.in-At.is
-    c.first_within.ensures c.in_default-first_within.is c.later_of.ensures
-
--- something is in the window
-pub leaf_failure-returns-in-At-first_within-2 : goal.leaf_failure-returns-in-At-first_within-2
-leaf_failure-returns-in-At-first_within-2 t c =
-    fails_met _ _ _ _ _ c.known_bound.ensures c.in-Some.is c.reached.ensures c.in-At.is
-    c.first_within.ensures c.in-At-first_within.is c.known_bound-2.ensures c.in-Some-known_bound.is
-    c.first_within-2.ensures c.in-At-first_within-2.is
-
--- something is before the upper bound, nothing in the window
-pub leaf_failure-returns-in-Never : goal.leaf_failure-returns-in-Never
-leaf_failure-returns-in-Never t c =
-    fails-missed _ _ _ _ _ c.known_bound.ensures c.in-Some.is c.reached.ensures c.in-At.is
-    c.first_within.ensures c.in-At-first_within.is c.known_bound-2.ensures c.in-Some-known_bound.is
-    c.first_within-2.ensures c.in-Never.is c.later_of-in-Never.ensures c.later_of-in-Never-2.ensures
-
 -- leaf_occurrence: when a leaf occurs
 
 -- both bounds are known
@@ -119,6 +160,19 @@ pub leaf_occurrence-returns : goal.leaf_occurrence-returns
 leaf_occurrence-returns t c =
     occurs _ _ _ _ _ c.known_bound.ensures c.in-Some.is c.known_bound-2.ensures c.in-Some-known_bound.is
     c.first_within-first.ensures c.later_of.ensures c.later_of-2.ensures
+
+-- only_happening: the only happening of a leaf's event
+
+pub only_happening-returns-in-Plain-eq0 : goal.only_happening-returns-in-Plain-eq0
+only_happening-returns-in-Plain-eq0 t c =
+    let zero = c.in-Plain-eq0 in early-zero _ _ _ _ _ (zero.is ∙ ap Plain (sym zero.field-0-is ∙ zero.field-0-test))
+
+pub only_happening-returns-in_default : goal.only_happening-returns-in_default
+unfolding under record_in
+only_happening-returns-in_default t c = (sym c.comes_once.ensures ∙ c.if-comes_once.true, c.first.ensures)
+
+pub only_happening-returns-in_default-2 : goal.only_happening-returns-in_default-2
+only_happening-returns-in_default-2 t c = early-recurs _ _ _ _ _ c.comes_once.ensures c.if-comes_once.false
 
 -- stage_time: the time of a cited stage
 

@@ -15,11 +15,20 @@ decreases-clause_times l = weight l.needed l.clause.now.rank
 abbrev pub decreases-count_times : goal.decreases-count_times
 decreases-count_times l = l.clause.now.rank * 512 + 8
 
+abbrev pub decreases-early_failure : goal.decreases-early_failure
+decreases-early_failure l = l.clause.now.rank * 512 + 8
+
 abbrev pub decreases-failure : goal.decreases-failure
-decreases-failure l = l.clause.now.rank * 512 + l.spot.items * 8 + 9
+decreases-failure l = l.clause.now.rank * 512 + l.spot.items * 8 + 10
+
+abbrev pub decreases-failure_at_end : goal.decreases-failure_at_end
+decreases-failure_at_end l = l.clause.now.rank * 512 + 8
 
 abbrev pub decreases-first : goal.decreases-first
 decreases-first l = l.clause.now.rank * 512 + 6
+
+abbrev pub decreases-first_of : goal.decreases-first_of
+decreases-first_of l = l.clause.now.rank * 512 + 6
 
 abbrev pub decreases-first_within : goal.decreases-first_within
 decreases-first_within l = l.clause.now.rank * 512 + 5
@@ -31,13 +40,16 @@ abbrev pub decreases-known_bound : goal.decreases-known_bound
 decreases-known_bound l = l.clause.now.rank * 512 + 7
 
 abbrev pub decreases-leaf_failure : goal.decreases-leaf_failure
-decreases-leaf_failure l = l.clause.now.rank * 512 + 8
+decreases-leaf_failure l = l.clause.now.rank * 512 + 9
 
 abbrev pub decreases-leaf_occurrence : goal.decreases-leaf_occurrence
 decreases-leaf_occurrence l = l.clause.now.rank * 512 + 8
 
 abbrev pub decreases-occurrence : goal.decreases-occurrence
-decreases-occurrence l = l.clause.now.rank * 512 + l.spot.items * 8 + 9
+decreases-occurrence l = l.clause.now.rank * 512 + l.spot.items * 8 + 10
+
+abbrev pub decreases-only_happening : goal.decreases-only_happening
+decreases-only_happening l = l.clause.now.rank * 512 + 7
 
 abbrev pub decreases-stage_time : goal.decreases-stage_time
 decreases-stage_time l = rank l.stage l.schema * 512 + 511
