@@ -19,8 +19,9 @@ use std::time::Instant;
 use tally::{Tally, APPEND, CALLS, CHECK_LOG, CHECK_TERMS, LISTING, REPORT, STANDING};
 
 /// From so many cases on, each refusal, both halves of demand 3, each kind of listing and both outcomes of a count have
-/// to come up, the latter after its window too, a third of the terms have to have a count, and some logs have to be
-/// unsorted and some accepted events stamped below the last record.
+/// to come up, the latter after its window too, a third of the terms have to have a count, each sort of early failure and
+/// of leaves spared one has to come up, and an early event that recurs, a third of the logs have to be unsorted and some
+/// accepted events stamped below the last record.
 const ENOUGH: u64 = 20_000;
 /// How many differences are printed whole.
 const SHOWN: u32 = 5;
@@ -114,7 +115,7 @@ impl Worker<'_> {
         let mut random = Random::new(seed);
         let case = generate::any(&mut random);
         self.tally.cases += 1;
-        self.tally.counts.add(&case);
+        self.tally.drawn.add(&case);
         self.checks(&case);
         self.reports(&mut random, &case);
         self.standing(&case);
@@ -146,7 +147,7 @@ impl Worker<'_> {
     fn reports(&mut self, random: &mut Random, case: &Case) {
         let log = log_of(case);
         let rows = count(log, case.moment);
-        self.tally.order.add_log(case, rows);
+        self.tally.drawn.order.add_log(case, rows);
         let more = random.between(1, 40) as isize;
         for page in [Page::Rows(0), Page::Rows(-1), Page::Rows(more), roomy(log), case.page] {
             let page = random.bytes(page.length(rows));
@@ -209,7 +210,7 @@ impl Worker<'_> {
             self.hold(APPEND, log, event, 0, &ours, &theirs.into());
             if ours.number == 0 {
                 let stamp = u32::from_le_bytes([event[1], event[2], event[3], event[4]]);
-                let order = &mut self.tally.order;
+                let order = &mut self.tally.drawn.order;
                 let below = order.add_append(log.terms, &log.buffer[..log.used], stamp);
                 appended.below_last |= below;
                 appended.earliest = appended.earliest.min(stamp);

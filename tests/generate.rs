@@ -7,6 +7,7 @@ mod events;
 mod input;
 mod large;
 mod log;
+mod once;
 mod random;
 mod terms;
 

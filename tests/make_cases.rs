@@ -10,7 +10,7 @@ mod tally;
 
 use generate::{Case, Random, AIMS, SMALL};
 use std::io::Write;
-use tally::{Counts, Order};
+use tally::{Drawn, Order};
 
 const SEED: u64 = 20_261_116;
 const CASES: u32 = 3_200;
@@ -29,8 +29,7 @@ fn main() {
     let mut random = Random::new(SEED);
     let mut output = CASES.to_le_bytes().to_vec();
     let mut numbers = [[0; 17]; 5];
-    let mut counts = Counts::default();
-    let mut order = Order::default();
+    let mut tried = Drawn::default();
     let mut long = 0;
     for place in 0..CASES {
         let (case, written) = loop {
@@ -39,8 +38,8 @@ fn main() {
                 break (case, written);
             }
         };
-        counts.add(&case);
-        written.add_order(&case, &mut order);
+        tried.add(&case);
+        written.add_order(&case, &mut tried.order);
         for (answered, number) in numbers.iter_mut().zip(written.numbers) {
             answered[number as usize] += 1;
         }
@@ -52,11 +51,11 @@ fn main() {
         "{} bytes, {long} long cases",
         output.len()
     );
-    let missed = [tally::unanswered(&numbers), counts.missed(), order.missed()].concat();
+    let missed = [tally::unanswered(&numbers), tried.missed()].concat();
     assert!(missed.is_empty(), "never came up: {}", missed.join(", "));
     let unexpected = tally::unexpected(&numbers);
     assert!(unexpected.is_empty(), "{}", unexpected.join(", "));
-    eprintln!("{}{counts}\n{order}", tally::spread(&numbers));
+    eprintln!("{}{tried}", tally::spread(&numbers));
     eprintln!("{CASES} cases, {long} long ones, {} bytes", output.len());
     std::io::stdout()
         .write_all(&output)

@@ -1,7 +1,8 @@
 //! Counts of what was compared.
 
 use crate::generate::{walk, Case, Terms};
-use crate::second;
+use crate::second::{self, End, Start, MINUS, PLAIN, PLUS};
+use std::cmp::Ordering::{Equal, Greater};
 use std::fmt;
 
 /// What is counted apart: the calls, and the listing program.
@@ -95,6 +96,117 @@ impl fmt::Display for Counts {
     }
 }
 
+/// A sort of leaves, and whether a leaf is of it.
+type Sort = (&'static str, fn(&Start) -> bool);
+
+/// Sorts of leaves that failed early.
+const EARLY: [Sort; 13] = [
+    ("with a closed upper bound", |leaf| leaf.end == End::Closed),
+    ("with an open upper bound", |leaf| leaf.end == End::Open),
+    ("with an unknown upper bound", |leaf| leaf.end == End::Unknown),
+    ("with a plain lower bound", |leaf| leaf.sign == PLAIN),
+    ("with event plus as lower bound", |leaf| leaf.sign == PLUS),
+    ("with event minus as lower bound", |leaf| leaf.sign == MINUS),
+    ("with a lower bound past the last minute", |leaf| leaf.past_last()),
+    ("when the lower bound became known", |leaf| leaf.waited()),
+    ("on a cited stage", |leaf| leaf.stage),
+    ("on another kind's stage", |leaf| leaf.stage && !leaf.own_kind),
+    ("on the subject's kind", |leaf| !leaf.stage && leaf.own_kind),
+    ("on another kind with the subject's key attribute", |leaf| {
+        !leaf.own_kind && leaf.own_key
+    }),
+    ("on another kind with another key attribute", |leaf| !leaf.own_key),
+];
+
+/// Sorts of leaves that did not fail early, although their event comes once and has come.
+const SPARED: [Sort; 5] = [
+    ("since the leaf had failed at its end before", |leaf| leaf.had_failed()),
+    ("since the leaf failed at its end at that minute", |leaf| {
+        leaf.fails_at_both()
+    }),
+    ("since the event came at the lower bound", |leaf| {
+        leaf.side() == Some(Equal)
+    }),
+    ("since the event came after the lower bound", |leaf| {
+        leaf.side() == Some(Greater)
+    }),
+    ("since the lower bound was unknown", |leaf| leaf.side().is_none()),
+];
+
+/// How many leaves failed early before the cases' moments, how many with such an event did not, and how many would have
+/// if their event did not recur.
+#[derive(Default)]
+pub struct Early {
+    all: u64,
+    early: [u64; EARLY.len()],
+    spared: [u64; SPARED.len()],
+    recurring: u64,
+}
+
+impl Early {
+    pub fn add(&mut self, case: &Case) {
+        for leaf in second::starts(&case.terms, &case.buffer, case.used, case.moment) {
+            match (leaf.once, leaf.early()) {
+                (true, true) => {
+                    self.all += 1;
+                    count(&mut self.early, &EARLY, &leaf);
+                }
+                (true, false) => count(&mut self.spared, &SPARED, &leaf),
+                (false, early) => self.recurring += u64::from(early),
+            }
+        }
+    }
+
+    fn merge(&mut self, other: &Early) {
+        self.all += other.all;
+        self.recurring += other.recurring;
+        let own = self.early.iter_mut().chain(&mut self.spared);
+        for (count, more) in own.zip(other.early.iter().chain(&other.spared)) {
+            *count += more;
+        }
+    }
+
+    /// What ought to have come up and did not.
+    pub fn missed(&self) -> Vec<String> {
+        let named = |what: &str, counts: &[u64], sorts: &[Sort]| -> Vec<String> {
+            let none = counts.iter().zip(sorts).filter(|(&count, _)| count == 0);
+            none.map(|(_, (sort, _))| format!("{what} {sort}")).collect()
+        };
+        let mut missed = named("an early failure", &self.early, &EARLY);
+        missed.extend(named("no early failure", &self.spared, &SPARED));
+        if self.recurring == 0 {
+            missed.push("an event that came early and recurs".to_string());
+        }
+        missed
+    }
+}
+
+/// Counts a leaf under each sort that it is of.
+fn count(counts: &mut [u64], sorts: &[Sort], leaf: &Start) {
+    for (count, (_, holds)) in counts.iter_mut().zip(sorts) {
+        *count += u64::from(holds(leaf));
+    }
+}
+
+/// How many leaves were of each sort.
+fn listed(counts: &[u64], sorts: &[Sort]) -> String {
+    let lines = counts.iter().zip(sorts);
+    let lines: Vec<String> = lines.map(|(count, (sort, _))| format!("{count} {sort}")).collect();
+    lines.join(", ")
+}
+
+impl fmt::Display for Early {
+    fn fmt(&self, out: &mut fmt::Formatter) -> fmt::Result {
+        let Early { all, recurring, .. } = self;
+        writeln!(out, "early failures of leaves: {all}; {}", listed(&self.early, &EARLY))?;
+        write!(
+            out,
+            "no early failure: {}; {recurring} since the event recurs, although it came early",
+            listed(&self.spared, &SPARED)
+        )
+    }
+}
+
 /// How many accepted logs are unsorted, their stamps falling somewhere, and what was tried on late uploads.
 #[derive(Default)]
 pub struct Order {
@@ -139,7 +251,10 @@ impl Order {
     /// What ought to have come up and did not.
     pub fn missed(&self) -> Vec<String> {
         let needed = [
-            (3 * self.unsorted >= self.logs, "stamps that fall in a third of the accepted logs"),
+            (
+                3 * self.unsorted >= self.logs,
+                "stamps that fall in a third of the accepted logs",
+            ),
             (self.with_rows > 0, "a report with rows on an unsorted log"),
             (self.below_last > 0, "an accepted append below the last stamp"),
         ];
@@ -171,6 +286,39 @@ impl fmt::Display for Order {
     }
 }
 
+/// What the cases had of counts, of events that come once, and of records out of the order of stamps.
+#[derive(Default)]
+pub struct Drawn {
+    counts: Counts,
+    early: Early,
+    pub order: Order,
+}
+
+impl Drawn {
+    /// Counts what a case has of the first two.
+    pub fn add(&mut self, case: &Case) {
+        self.counts.add(case);
+        self.early.add(case);
+    }
+
+    fn merge(&mut self, other: &Drawn) {
+        self.counts.merge(&other.counts);
+        self.early.merge(&other.early);
+        self.order.merge(&other.order);
+    }
+
+    /// What ought to have come up and did not.
+    pub fn missed(&self) -> Vec<String> {
+        [self.counts.missed(), self.early.missed(), self.order.missed()].concat()
+    }
+}
+
+impl fmt::Display for Drawn {
+    fn fmt(&self, out: &mut fmt::Formatter) -> fmt::Result {
+        write!(out, "{}\n{}\n{}", self.counts, self.early, self.order)
+    }
+}
+
 #[derive(Default)]
 pub struct Tally {
     pub cases: u64,
@@ -183,8 +331,7 @@ pub struct Tally {
     /// How often the first half was tried with an accepted append below the last stamp.
     pub lasting_below: u64,
     pub alike: Half,
-    pub counts: Counts,
-    pub order: Order,
+    pub drawn: Drawn,
     /// Outputs of the listing program: rows, none, refused, bad input.
     pub listings: [u64; 4],
 }
@@ -216,8 +363,7 @@ impl Tally {
         if self.listings.contains(&0) {
             missed.push("a kind of output of the listing program".to_string());
         }
-        missed.extend(self.counts.missed());
-        missed.extend(self.order.missed());
+        missed.extend(self.drawn.missed());
         missed
     }
 
@@ -233,8 +379,7 @@ impl Tally {
         self.lasting.merge(&other.lasting);
         self.lasting_below += other.lasting_below;
         self.alike.merge(&other.alike);
-        self.counts.merge(&other.counts);
-        self.order.merge(&other.order);
+        self.drawn.merge(&other.drawn);
     }
 }
 
@@ -291,8 +436,7 @@ impl fmt::Display for Tally {
             "listing: {rows} with rows, {none} without, {refused} refused, {bad} bad input"
         )?;
         writeln!(out, "rows compared: {}", self.rows)?;
-        writeln!(out, "{}", self.counts)?;
-        writeln!(out, "{}", self.order)?;
+        writeln!(out, "{}", self.drawn)?;
         writeln!(
             out,
             "demand 3, first half, with an accepted append below the last stamp: {}",

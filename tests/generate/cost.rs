@@ -23,7 +23,7 @@ struct Table<'a> {
 }
 
 impl Table<'_> {
-    /// Two records of one kind never correlate, so an own stage costs once; others at most once for each record.
+    /// A stage that comes once is worked out for one record at most, any other at most for each record.
     fn event(&self, event: Event, subject: u8) -> u64 {
         if event.form == 0 {
             return self.records;
@@ -34,7 +34,11 @@ impl Table<'_> {
             return 0;
         };
         let cited = self.terms.schemas[number].subject;
-        let matches = if cited == subject { 1 } else { self.count(cited) };
+        let matches = if self.terms.once(event, subject) {
+            1
+        } else {
+            self.count(cited)
+        };
         sum(&[self.records, matches.saturating_mul(*cost)])
     }
 
@@ -42,8 +46,9 @@ impl Table<'_> {
         self.counts.get(usize::from(kind)).copied().unwrap_or(0)
     }
 
-    /// A failure asks twice for the event: before the upper bound, and within the window. A count asks once,
-    /// whichever of its times is wanted.
+    /// A failure asks twice for the event: before the upper bound, and within the window; where it comes once, before
+    /// the lower bound too, which is asked for again (by plain evaluation; the engine looks for such an event once). A
+    /// count asks once, whichever of its times is wanted.
     fn leaf(&self, leaf: &Leaf, subject: u8) -> Cost {
         let bound = |bound: Bound| {
             if matches!(bound.sign, 1 | 2) {
@@ -53,8 +58,13 @@ impl Table<'_> {
             }
         };
         let event = self.event(leaf.event, subject);
-        let occurs = sum(&[event, bound(leaf.lower), bound(leaf.upper)]);
-        let again = if leaf.threshold.is_some() { 0 } else { event };
+        let lower = bound(leaf.lower);
+        let occurs = sum(&[event, lower, bound(leaf.upper)]);
+        let again = match leaf.threshold {
+            Some(_) => 0,
+            None if self.terms.once(leaf.event, subject) => sum(&[event, event, lower]),
+            None => event,
+        };
         Cost {
             occurs,
             fails: sum(&[occurs, again]),
@@ -167,7 +177,7 @@ pub fn shrink(random: &mut Random, terms: &mut Terms, records: &mut Vec<Record>,
 /// Puts the subject's own kind, or for a bound no event, in the place of one citation.
 fn drop_citation(random: &mut Random, terms: &mut Terms) {
     let subjects: Vec<u8> = terms.schemas.iter().map(|schema| schema.subject).collect();
-    let mut citing = terms.leaves();
+    let mut citing = terms.leaves_mut();
     citing.retain(|(_, leaf)| {
         [leaf.event, leaf.lower.event, leaf.upper.event]
             .iter()

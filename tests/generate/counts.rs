@@ -18,7 +18,9 @@ const PASSED: u32 = 4;
 
 /// One of the counts whose kind recurs, for one of its subjects.
 pub fn target(random: &mut Random, terms: &Terms, records: &[Record]) -> Option<Target> {
-    let pairs = pairs(terms, records);
+    let pairs = pairs(terms, records, |leaf, subject| {
+        leaf.threshold.is_some() && terms.recurs(leaf.event.number, subject)
+    });
     if pairs.is_empty() {
         return None;
     }
@@ -37,16 +39,18 @@ pub fn target(random: &mut Random, terms: &Terms, records: &[Record]) -> Option<
     })
 }
 
-/// The counts whose kind recurs, with each of their subjects.
-fn pairs<'a>(terms: &'a Terms, records: &'a [Record]) -> Vec<(&'a Leaf, &'a Record)> {
-    let counts = terms
-        .counts()
-        .into_iter()
-        .map(|(schema, count)| (terms.schemas[schema].subject, count));
-    let counts = counts.filter(|(subject, count)| terms.recurs(count.event.number, *subject));
-    let pairs = counts.flat_map(|(kind, count)| {
+/// The leaves that are kept, by themselves and their subject kind, with each of their subjects.
+pub fn pairs<'a>(
+    terms: &'a Terms,
+    records: &'a [Record],
+    kept: impl Fn(&Leaf, u8) -> bool,
+) -> Vec<(&'a Leaf, &'a Record)> {
+    let leaves = terms.leaves().into_iter();
+    let leaves = leaves.map(|(schema, leaf)| (leaf, terms.schemas[schema].subject));
+    let leaves = leaves.filter(|&(leaf, kind)| kept(leaf, kind));
+    let pairs = leaves.flat_map(|(leaf, kind)| {
         let subjects = records.iter().filter(move |record| record.kind == kind);
-        subjects.map(move |subject| (count, subject))
+        subjects.map(move |subject| (leaf, subject))
     });
     pairs.collect()
 }
@@ -64,7 +68,7 @@ fn stamps<'a>(
 
 /// The minute that a bound stands for, as far as the records tell it: stages, and kinds without a record, are taken to
 /// happen with the subject.
-fn minute(terms: &Terms, records: &[Record], subject: &Record, bound: Bound) -> u32 {
+pub fn minute(terms: &Terms, records: &[Record], subject: &Record, bound: Bound) -> u32 {
     let earliest = || stamps(terms, records, bound.event.number, subject).min();
     let from = match (bound.sign, bound.event.form) {
         (0, _) => 0,

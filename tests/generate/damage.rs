@@ -36,7 +36,7 @@ fn field(random: &mut Random, terms: &mut Terms) {
 /// One of the leaves; now and then it has to be a count, if there is one.
 fn pick_leaf<'a>(random: &mut Random, terms: &'a mut Terms) -> Option<(usize, &'a mut Leaf)> {
     let only_counts = random.one_in(3) && !terms.counts().is_empty();
-    let mut leaves = terms.leaves();
+    let mut leaves = terms.leaves_mut();
     leaves.retain(|(_, leaf)| !only_counts || leaf.threshold.is_some());
     if leaves.is_empty() {
         None
@@ -177,7 +177,7 @@ fn nothing_shared(random: &mut Random, terms: &mut Terms) {
     if random.one_in(2) && terms.schemas.len() < 16 {
         return terms.schemas.push(citing_schema(random, number, key, cited as u8));
     }
-    let leaves = terms.leaves().into_iter().filter(|(rank, _)| rank / 3 == cited);
+    let leaves = terms.leaves_mut().into_iter().filter(|(rank, _)| rank / 3 == cited);
     let mut leaves: Vec<&mut Leaf> = leaves.map(|(_, leaf)| leaf).collect();
     if !leaves.is_empty() {
         let place = random.index(leaves.len());

@@ -2,6 +2,7 @@
 
 use super::counts;
 use super::log::{latest, some_stamp, Drawer, Record};
+use super::once;
 use super::random::Random;
 use super::terms::{Terms, HIGHEST};
 
@@ -58,11 +59,16 @@ impl State<'_> {
         }
     }
 
-    /// An event of any minute, now and then one that the window of a count asks for.
+    /// An event of any minute, now and then one that the window of a count asks for, or that comes once.
     fn upload(&mut self, random: &mut Random) -> Record {
         if random.one_in(3) {
             if let Some(target) = counts::target(random, self.terms, &self.records) {
                 return target.inside(random, &mut self.drawer);
+            }
+        }
+        if random.one_in(4) {
+            if let Some(record) = once::event(random, &mut self.drawer, &self.records) {
+                return record;
             }
         }
         let kind = self.drawer.kind(random);

@@ -1,6 +1,7 @@
 //! Logs as values: records drawn at random so that they often correlate and often lie at the edges of windows.
 
 use super::counts;
+use super::once;
 use super::random::Random;
 use super::terms::{attributes, Item, Kind, Terms, HIGHEST};
 use super::Size;
@@ -53,7 +54,7 @@ pub fn walk(terms: &Terms, log: &[u8]) -> Vec<(u8, u32, usize)> {
 
 /// Draws what goes into records under given terms.
 pub struct Drawer<'a> {
-    terms: &'a Terms,
+    pub terms: &'a Terms,
     /// The offsets of the terms; stamps lie so far apart, or one off.
     offsets: Vec<u32>,
     subjects: Vec<u8>,
@@ -165,7 +166,7 @@ impl<'a> Drawer<'a> {
 }
 
 /// Draws a log that is accepted, about half of the time with stamps that fall somewhere. Where terms count, some of its
-/// records are drawn for the windows of counts.
+/// records are drawn for the windows of counts; some of those that come once are moved, or added, near a window's start.
 pub fn rich(random: &mut Random, terms: &Terms, size: &Size) -> Vec<Record> {
     let mut drawer = Drawer::new(random, terms);
     let count = match random.below(100) {
@@ -181,6 +182,9 @@ pub fn rich(random: &mut Random, terms: &Terms, size: &Size) -> Vec<Record> {
     }
     for _ in 0..random.between(1, 3) {
         fill_window(random, &mut drawer, &mut records);
+    }
+    for _ in 0..random.below(4) {
+        once::place(random, &mut drawer, &mut records);
     }
     arrange(random, &mut records);
     records

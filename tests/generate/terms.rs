@@ -128,21 +128,28 @@ impl Terms {
         self.items().concat()
     }
 
-    /// The counts, each with its schema's number.
-    pub fn counts(&self) -> Vec<(usize, &Leaf)> {
+    /// The leaves, counts too, each with its schema's number.
+    pub fn leaves(&self) -> Vec<(usize, &Leaf)> {
         let schemas = self.schemas.iter().enumerate();
         let items =
             schemas.flat_map(|(number, schema)| schema.clauses.iter().flatten().map(move |item| (number, item)));
         items
             .filter_map(|(number, item)| match item {
-                Item::Leaf(leaf) if leaf.threshold.is_some() => Some((number, leaf)),
+                Item::Leaf(leaf) => Some((number, leaf)),
                 _ => None,
             })
             .collect()
     }
 
-    /// The leaves, counts too, each with the rank of its clause.
-    pub fn leaves(&mut self) -> Vec<(usize, &mut Leaf)> {
+    /// The counts, each with its schema's number.
+    pub fn counts(&self) -> Vec<(usize, &Leaf)> {
+        let mut leaves = self.leaves();
+        leaves.retain(|(_, leaf)| leaf.threshold.is_some());
+        leaves
+    }
+
+    /// The leaves to be changed, counts too, each with the rank of its clause.
+    pub fn leaves_mut(&mut self) -> Vec<(usize, &mut Leaf)> {
         let clauses = self.schemas.iter_mut().flat_map(|schema| schema.clauses.iter_mut());
         let items = clauses
             .enumerate()
@@ -162,10 +169,25 @@ impl Terms {
         self.kinds.get(usize::from(kind)).map_or(0, |kind| kind.mask)
     }
 
+    /// The kind whose records bring an event about; none where a schema is not there.
+    pub fn kind_of(&self, event: Event) -> Option<u8> {
+        match event.form {
+            0 => Some(event.number),
+            _ => self.schemas.get(usize::from(event.number)).map(|schema| schema.subject),
+        }
+    }
+
     /// Whether a subject can have several records of a kind, since it doesn't carry their key.
     pub fn recurs(&self, kind: u8, subject: u8) -> bool {
-        let key = self.kinds[usize::from(kind)].key;
-        self.mask(subject) >> key & 1 == 0
+        let key = self.kinds.get(usize::from(kind)).map(|kind| kind.key);
+        !attributes(self.mask(subject))
+            .into_iter()
+            .any(|attribute| Some(attribute) == key)
+    }
+
+    /// Whether an event comes once for a subject, if it comes at all.
+    pub fn once(&self, event: Event, subject: u8) -> bool {
+        self.kind_of(event).is_some_and(|kind| !self.recurs(kind, subject))
     }
 
     /// Terms from bytes that keep the grammar; the fields may hold anything.
@@ -331,30 +353,30 @@ struct Scope {
     /// Those of which a subject can have several records.
     recurring: Vec<u8>,
     stages: Vec<Event>,
+    /// The kinds and stages that come once.
+    once: Vec<Event>,
     late: bool,
 }
 
 fn scope(terms: &Terms, subject: u8, clause: usize, late: bool) -> Scope {
     let shares = |kind: u8| terms.mask(kind) & terms.mask(subject) != 0;
     let own = terms.schemas.len() as u8;
-    let mut stages = Vec::new();
-    for number in 0..=own {
-        let cited = terms
-            .schemas
-            .get(usize::from(number))
-            .map_or(subject, |schema| schema.subject);
-        let all = (1..=5).map(|form| Event { form, number });
-        stages.extend(all.filter(|&stage| shares(cited) && rank(stage) < 3 * usize::from(own) + clause));
-    }
+    let cited = |stage: Event| terms.kind_of(stage).unwrap_or(subject);
+    let all = (0..=own).flat_map(|number| (1..=5).map(move |form| Event { form, number }));
+    let smaller = all.filter(|&stage| rank(stage) < 3 * usize::from(own) + clause);
+    let stages: Vec<Event> = smaller.filter(|&stage| shares(cited(stage))).collect();
     let mut kinds: Vec<u8> = (0..terms.kinds.len() as u8).filter(|&kind| shares(kind)).collect();
     if kinds.len() > 1 {
         kinds.extend(kinds.clone().iter().filter(|&&kind| kind != subject));
     }
-    let recurring = kinds.iter().copied().filter(|&kind| terms.recurs(kind, subject));
+    let (recurring, single): (Vec<u8>, Vec<u8>) = kinds.iter().partition(|&&kind| terms.recurs(kind, subject));
+    let mut once: Vec<Event> = single.into_iter().map(|number| Event { form: 0, number }).collect();
+    once.extend(stages.iter().filter(|&&stage| !terms.recurs(cited(stage), subject)));
     Scope {
-        recurring: recurring.collect(),
         kinds,
+        recurring,
         stages,
+        once,
         late,
     }
 }
@@ -418,7 +440,8 @@ pub fn tree(random: &mut Random, operands: u32, items: &mut Vec<Item>, operand: 
     tree(random, operands - left, items, operand);
 }
 
-/// One leaf in four counts; more of them where leaves are late, fewer where no kind recurs.
+/// One leaf in four counts; more of them where leaves are late, fewer where no kind recurs. Of those that don't count, one
+/// in three late ones starts after an expiry, and one in four others is on an event that comes once.
 fn leaf(random: &mut Random, scope: &Scope) -> Leaf {
     let late = scope.late && random.percent(75);
     let counts = random.percent(match scope.recurring[..] {
@@ -427,8 +450,10 @@ fn leaf(random: &mut Random, scope: &Scope) -> Leaf {
         _ => 25,
     });
     let leaf = match (late, counts) {
+        (true, false) if random.one_in(3) => after_expired(random, scope),
         (true, _) => late_leaf(random, scope),
         (false, true) => closed_leaf(random, scope),
+        (false, false) if random.one_in(4) => once_leaf(random, scope),
         (false, false) => usual_leaf(random, scope),
     };
     if counts {
@@ -524,6 +549,29 @@ fn usual_leaf(random: &mut Random, scope: &Scope) -> Leaf {
     }
 }
 
+/// A leaf on an event that comes once, its window from some minutes on and often without an end.
+fn once_leaf(random: &mut Random, scope: &Scope) -> Leaf {
+    let event = random.pick(&scope.once);
+    let sign = random.pick(&[0, 0, 0, 1, 1, 2]);
+    let mut lower = bound(random, scope, sign);
+    lower.offset = lower.offset.max(random.between(1, 6));
+    if sign == 1 && random.one_in(4) {
+        lower.event = event;
+    }
+    let sign = random.pick(&[0, 1, 2]);
+    let upper = match random.below(6) {
+        0 | 1 => OPEN,
+        2 => end_after(random, lower),
+        _ => bound(random, scope, sign),
+    };
+    Leaf {
+        event,
+        lower,
+        upper,
+        threshold: None,
+    }
+}
+
 /// A leaf that mostly fails at its upper bound, as late as offsets reach; chains of them pass the last minute.
 fn late_leaf(random: &mut Random, scope: &Scope) -> Leaf {
     let far = HIGHEST - random.pick(&[0, 0, 0, 0, 1, 2]);
@@ -532,9 +580,8 @@ fn late_leaf(random: &mut Random, scope: &Scope) -> Leaf {
         event: NO_EVENT,
         offset,
     };
-    let expired = scope.stages.iter().rfind(|stage| stage.form == EXPIRED);
-    let upper = match expired {
-        Some(&event) if random.percent(85) => {
+    let upper = match last_expired(scope) {
+        Some(event) if random.percent(85) => {
             let offset = random.pick(&[far, far, far, 0, 1, 2, 3]);
             Bound { sign: 1, event, offset }
         }
@@ -542,10 +589,41 @@ fn late_leaf(random: &mut Random, scope: &Scope) -> Leaf {
     };
     let lower = plain(random.pick(&[HIGHEST, HIGHEST, 0]));
     Leaf {
-        event: event(random, scope),
+        event: late_event(random, scope),
         lower,
         upper,
         threshold: None,
+    }
+}
+
+fn last_expired(scope: &Scope) -> Option<Event> {
+    scope.stages.iter().rfind(|stage| stage.form == EXPIRED).copied()
+}
+
+/// A leaf on the last stage expired, its window from some minutes after that on: often past the last minute, since that
+/// stage mostly waits for others. That of schema 0 waits for none.
+fn after_expired(random: &mut Random, scope: &Scope) -> Leaf {
+    let Some(event) = last_expired(scope).filter(|stage| stage.number > 0) else {
+        return late_leaf(random, scope);
+    };
+    let offset = random.pick(&[1, 2, HIGHEST, HIGHEST]);
+    let lower = Bound { sign: 1, event, offset };
+    Leaf {
+        event,
+        lower,
+        upper: random.pick(&[OPEN, lower]),
+        threshold: None,
+    }
+}
+
+/// Mostly a kind that recurs: one that comes once would not leave the failure to the upper bound.
+fn late_event(random: &mut Random, scope: &Scope) -> Event {
+    if scope.recurring.is_empty() || random.one_in(8) {
+        return event(random, scope);
+    }
+    Event {
+        form: 0,
+        number: random.pick(&scope.recurring),
     }
 }
 

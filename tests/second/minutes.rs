@@ -65,9 +65,8 @@ impl<'a> History<'a> {
         stages.map(|stage| (stage, first_yes(stage).copied())).collect()
     }
 
-    /// The minutes worth asking, rising, none before the subject's stamp. An answer can turn to yes only with the stamp
-    /// or with a leaf's answer, and that one only when a bound becomes known, when the window closes, or at the first
-    /// happening from the lower bound on: later happenings find the window already entered, or past.
+    /// The minutes worth asking, rising, none before the subject's stamp: at no other can an answer turn to yes, since it
+    /// does so only with the stamp or with a leaf's answer (`turns`).
     fn minutes(&self, clauses: &[Expr<Window>]) -> BTreeSet<u32> {
         let windows = clauses.iter().flat_map(Expr::leaves);
         let turns = windows.flat_map(Window::turns).filter(|&turn| turn <= LAST_MINUTE);
@@ -83,6 +82,7 @@ impl<'a> History<'a> {
             happenings: self.happenings(leaf.event),
             lower: self.edge(&leaf.lower),
             upper: self.edge(&leaf.upper),
+            once: self.comes_once(leaf.event),
             threshold: leaf.threshold,
         }
     }
@@ -100,6 +100,14 @@ impl<'a> History<'a> {
             _ => None,
         };
         Some(Edge { known, minute })
+    }
+
+    /// Whether records of the event's kind have their key compared with the subject, so that one correlates at most.
+    fn comes_once(&self, event: Event) -> bool {
+        let [kind, own] =
+            [self.terms.kind_of(event), self.subject.kind].map(|kind| &self.terms.kinds[usize::from(kind)]);
+        let compared = kind.mask & own.mask;
+        compared & 1 << kind.key != 0
     }
 
     /// When the event happens for this subject, rising.
@@ -136,6 +144,8 @@ struct Window {
     happenings: Vec<u32>,
     lower: Option<Edge>,
     upper: Option<Edge>,
+    /// Whether there can be no second happening.
+    once: bool,
     /// What a count has to pass.
     threshold: Option<u32>,
 }
@@ -151,7 +161,7 @@ impl Window {
     fn failed_by(&self, t: u32) -> bool {
         match self.threshold {
             Some(threshold) => self.counted_by(t).is_some_and(|count| count <= u64::from(threshold)),
-            None => self.missed_by(t),
+            None => self.missed_by(t) || self.came_early_by(t),
         }
     }
 
@@ -181,6 +191,14 @@ impl Window {
         upper.known_by(t) && *end <= u64::from(t) && (none_before_end || none_within)
     }
 
+    /// Whether the one happening there can be has come, and the window is known to start after it.
+    fn came_early_by(&self, t: u32) -> bool {
+        let (true, Some(lower), Some(&only)) = (self.once, &self.lower, self.happenings.first()) else {
+            return false;
+        };
+        only <= t && lower.known_by(t) && u64::from(only) < lower.minute.unwrap_or(0)
+    }
+
     fn happened_within(&self, lower: &Edge, upper: &Edge, t: u32) -> bool {
         let end = upper.minute.unwrap_or(u64::MAX);
         let first = self.first_from(lower);
@@ -199,12 +217,19 @@ impl Window {
             .partition_point(|&happening| u64::from(happening) < minute)
     }
 
-    /// The minutes at which an answer about this leaf can turn.
+    /// The minutes at which an answer about this leaf can turn: when a bound becomes known, when the window closes, at the
+    /// happening of what comes once, and at the first one from the lower bound on; later ones find the window entered, or past.
     fn turns(&self) -> impl Iterator<Item = u64> {
         let first = self.lower.as_ref().and_then(|lower| self.first_from(lower));
+        let only = self.happenings.first().copied().filter(|_| self.once);
         let known = [&self.lower, &self.upper].map(|edge| edge.as_ref().map(|edge| edge.known));
         let end = self.upper.as_ref().and_then(|upper| upper.minute);
-        known.into_iter().chain([first]).flatten().map(u64::from).chain(end)
+        known
+            .into_iter()
+            .chain([first, only])
+            .flatten()
+            .map(u64::from)
+            .chain(end)
     }
 }
 

@@ -1,6 +1,7 @@
 //! Times by plain recursion: nothing is remembered, a cited stage is worked out wherever it is cited.
 
 use super::log::Record;
+use super::start::{End, Start};
 use super::terms::{Bound, Event, Expr, Leaf, Terms};
 use super::terms::{
     COMMITMENT, CREATED, DETACHED, DISCHARGED, EXPIRED, KIND, MINUS, OPEN, PLUS, PROHIBITION, VIOLATED,
@@ -14,9 +15,9 @@ pub struct Plain<'a> {
 }
 
 /// A known bound. Its value may lie past any time; an open one lies past everything.
-struct Known {
-    value: u64,
-    since: u32,
+pub struct Known {
+    pub value: u64,
+    pub since: u32,
 }
 
 /// How a count came out, when, and whether that was after its window had ended, since a bound was not known before.
@@ -89,6 +90,16 @@ impl Plain<'_> {
             let settled = self.settled(leaf, subject)?;
             return (!settled.passed).then_some(settled.time);
         }
+        let at_end = self.failure_at_end(leaf, subject);
+        if self.comes_once(leaf.event, subject) {
+            earlier(at_end, self.too_early(leaf, subject))
+        } else {
+            at_end
+        }
+    }
+
+    /// The failure at a closed upper bound, with nothing in the window.
+    fn failure_at_end(&self, leaf: &Leaf, subject: &Record) -> Option<u32> {
         if leaf.upper.sign == OPEN {
             return None;
         }
@@ -104,8 +115,24 @@ impl Plain<'_> {
         }
     }
 
-    /// How a count is settled; none where a bound is unknown, or where its time would be past the last one.
+    /// The minute by which something has happened before the lower bound and that bound is known.
+    fn too_early(&self, leaf: &Leaf, subject: &Record) -> Option<u32> {
+        let lower = self.known(&leaf.lower, subject)?;
+        let early = self.earliest(leaf.event, subject, 0, lower.value)?;
+        Some(early.max(lower.since))
+    }
+
+    /// Whether the subject carries the key of the event's kind, which no two records have alike.
+    fn comes_once(&self, event: Event, subject: &Record) -> bool {
+        let kinds = &self.terms.kinds;
+        let key = kinds[usize::from(self.terms.kind_of(event))].key;
+        kinds[usize::from(subject.kind)].carries(key)
+    }
+
+    /// How a count is settled; none where a bound is unknown, where its time would be past the last one, or where the
+    /// leaf doesn't count.
     pub fn settled(&self, count: &Leaf, subject: &Record) -> Option<Settled> {
+        let threshold = count.threshold?;
         let lower = self.known(&count.lower, subject)?;
         let upper = self.known(&count.upper, subject)?;
         let window = lower.value..upper.value;
@@ -114,8 +141,30 @@ impl Plain<'_> {
         let known = u64::from(lower.since.max(upper.since));
         Some(Settled {
             time: time(upper.value.max(known))?,
-            passed: inside.count() as u64 > u64::from(count.threshold?),
+            passed: inside.count() as u64 > u64::from(threshold),
             waited: known > upper.value,
+        })
+    }
+
+    /// A leaf's first happening and what goes with it; none if nothing happens, and for a count.
+    pub fn start(&self, leaf: &Leaf, subject: &Record) -> Option<Start> {
+        let leaf = Some(leaf).filter(|leaf| leaf.threshold.is_none())?;
+        let kind = self.terms.kind_of(leaf.event);
+        let [key, own_key] = [kind, subject.kind].map(|kind| self.terms.kinds[usize::from(kind)].key);
+        Some(Start {
+            first: self.earliest(leaf.event, subject, 0, u64::MAX)?,
+            lower: self.known(&leaf.lower, subject),
+            sign: leaf.lower.sign,
+            end: match self.known(&leaf.upper, subject) {
+                None => End::Unknown,
+                Some(_) if leaf.upper.sign == OPEN => End::Open,
+                Some(_) => End::Closed,
+            },
+            at_end: self.failure_at_end(leaf, subject),
+            once: self.comes_once(leaf.event, subject),
+            stage: leaf.event.form != KIND,
+            own_kind: kind == subject.kind,
+            own_key: key == own_key,
         })
     }
 
@@ -132,8 +181,11 @@ impl Plain<'_> {
         Some(Known { value, since })
     }
 
-    /// The earliest happening from `lower` up to, but not at, `upper`.
+    /// The earliest happening from `lower` up to, but not at, `upper`; in an empty window nothing is looked for.
     fn earliest(&self, event: Event, subject: &Record, lower: u64, upper: u64) -> Option<u32> {
+        if lower >= upper {
+            return None;
+        }
         let correlated = self.correlated(self.terms.kind_of(event), subject);
         let happenings = correlated.filter_map(|record| match event.form {
             KIND => Some(record.stamp),

@@ -166,14 +166,9 @@ impl Kind {
 
 impl Schema {
     /// Every leaf, with the place of its clause.
-    fn leaves(&self) -> impl Iterator<Item = (usize, &Leaf)> {
+    pub fn leaves(&self) -> impl Iterator<Item = (usize, &Leaf)> {
         let clauses = self.clauses.iter().enumerate();
         clauses.flat_map(|(place, clause)| clause.leaves().into_iter().map(move |leaf| (place, leaf)))
-    }
-
-    pub fn counts(&self) -> impl Iterator<Item = &Leaf> {
-        let leaves = self.leaves().map(|(_, leaf)| leaf);
-        leaves.filter(|leaf| leaf.threshold.is_some())
     }
 
     /// Every event of a leaf or bound, with the place of its clause.
