@@ -1,2 +1,3 @@
 -- What the contracts of the program's functions share.
 pub mod Left
+pub mod Lends

@@ -1,37 +1,23 @@
 // A case as the text writes it.
-ghost use Rattle.std.specs.Prelude.{◌<◌, ◌≤◌, IfOk, IfSome, OnOk, vec_len};
+ghost use Rattle.std.specs.Prelude.{◌<◌, ◌≤◌, IfOk, IfSome, OnOk};
 ghost use Rattle.cases.specs.Left.{left};
+ghost use Rattle.cases.specs.Lends.{Lends};
 
-use crate::token::{Token, number_of, starts_token};
+use crate::room::Room;
+use crate::state::{PAGE_ROOM, State};
+use crate::token::{number_of, put_token, starts_token};
 use crate::words::Words;
 use console::Failure;
-use std::alloc::Global;
-
-// How many bytes there is room for: of the terms, of the log buffer, of the event, and of the page.
-const TERMS_ROOM: usize = 20000;
-
-const LOG_ROOM: usize = 40000;
-
-const EVENT_ROOM: usize = 256;
-
-const PAGE_ROOM: usize = 65520;
 
 // The largest number of eight bytes that a case may write.
 const LARGEST: usize = 18446744073709551609;
 
-// Where the log buffer comes from: the case before, or bytes that are given.
-#[derive(Drop)]
-pub(crate) enum Log {
-    Held,
-    Given(Vec<u8>),
-}
-
-// The call that is asked for; after a report, the moment from which on its rows are struck.
+// The call that is asked for; after a report, the moment from which on its rows are struck. The event of an append is in the state.
 #[derive(Drop)]
 pub(crate) enum Call {
     CheckTerms,
     CheckLog,
-    Append(Vec<u8>),
+    Append,
     Report {
         moment: u32,
         page: usize,
@@ -44,13 +30,10 @@ pub(crate) enum Call {
     },
 }
 
-// What a case says. Terms that it does not give are those of the case before.
+// What a case says, beside what goes into the state: its bytes and its used length.
 #[derive(Drop)]
 pub(crate) struct Case<'a> {
     pub name: &'a [u8],
-    pub terms: Option<Vec<u8>>,
-    pub log: Log,
-    pub used: Option<usize>,
     pub call: Call,
 }
 
@@ -74,42 +57,48 @@ fn read_u32(words: &mut Words<'_>) -> Result<u32, Failure>
     u32::try_from(number).or(Err(Failure::BadInput))
 }
 
-// The bytes of the tokens that come next, as many as there is room for.
-fn read_bytes(alloc: Global, words: &mut Words<'_>, room: usize) -> Result<Vec<u8>, Failure>
+// Puts the bytes of the tokens that come next into a room, in place of those that it has.
+fn read_bytes<const SIZE: usize>(
+    words: &mut Words<'_>,
+    room: &mut Room<SIZE>,
+) -> Result<(), Failure>
     ensures falls { left words.new ≤ left words.old }
-    ensures fits { IfOk result (λ bytes. vec_len bytes ≤ room) }
+    ensures fits { room.new.filled ≤ SIZE }
 {
-    let mut bytes = Vec::new(alloc);
+    room.filled = 0;
     while let Some(word) = words.next_if(starts_token) {
-        Token::read(alloc, word)?.put(&mut bytes, room)?;
+        put_token(word, room)?;
     }
-    Ok(bytes)
+    Ok(())
 }
 
-// The bytes after a keyword, if it comes next.
-fn read_section(
-    alloc: Global,
+// Puts the bytes after a keyword into a room, if it comes next. Whether it does.
+fn read_section<const SIZE: usize>(
     words: &mut Words<'_>,
     keyword: &[u8],
-    room: usize,
-) -> Result<Option<Vec<u8>>, Failure>
+    room: &mut Room<SIZE>,
+) -> Result<bool, Failure>
     ensures falls { left words.new ≤ left words.old }
-    ensures fits { IfOk result (λ section. IfSome section (λ bytes. vec_len bytes ≤ room)) }
+    ensures fits { room.new.filled ≤ SIZE }
 {
     if !words.take(keyword) {
-        return Ok(None);
+        return Ok(false);
     }
-    Ok(Some(read_bytes(alloc, words, room)?))
+    read_bytes(words, room)?;
+    Ok(true)
 }
 
-// Where the log buffer comes from, if that is said.
-fn read_log(alloc: Global, words: &mut Words<'_>) -> Result<Option<Log>, Failure>
+// The log buffer goes into the state: the one that is held, else the bytes that are given, or none, all of them used. Whether it is said.
+fn read_log(words: &mut Words<'_>, state: &mut State) -> Result<bool, Failure>
     ensures { left words.new ≤ left words.old }
 {
     if words.take(b"held") {
-        return Ok(Some(Log::Held));
+        return Ok(true);
     }
-    Ok(read_section(alloc, words, b"log", LOG_ROOM)?.map(Log::Given))
+    state.log.filled = 0;
+    let is_given = read_section(words, b"log", &mut state.log)?;
+    state.used = state.log.filled;
+    Ok(is_given)
 }
 
 // The used length, if it is given.
@@ -124,7 +113,8 @@ fn read_used(words: &mut Words<'_>) -> Result<Option<usize>, Failure>
 
 // After `report`: what is asked for.
 fn read_report(words: &mut Words<'_>) -> Result<Call, Failure>
-    ensures { left words.new ≤ left words.old }
+    ensures falls { left words.new ≤ left words.old }
+    ensures lends { IfOk result (λ call. Lends call) }
 {
     let moment = read_u32(words)?;
     let page = read_number(words, PAGE_ROOM)?;
@@ -142,7 +132,8 @@ fn read_report(words: &mut Words<'_>) -> Result<Call, Failure>
 
 // After `standing`: what is asked for.
 fn read_standing(words: &mut Words<'_>) -> Result<Call, Failure>
-    ensures { left words.new ≤ left words.old }
+    ensures falls { left words.new ≤ left words.old }
+    ensures lends { IfOk result (λ call. Lends call) }
 {
     Ok(Call::Standing {
         schema: read_number(words, LARGEST)?,
@@ -151,12 +142,24 @@ fn read_standing(words: &mut Words<'_>) -> Result<Call, Failure>
     })
 }
 
-// The call that is asked for, if one is.
-fn read_call(alloc: Global, words: &mut Words<'_>) -> Result<Option<Call>, Failure>
-    ensures { left words.new ≤ left words.old }
+// The check that is asked for where no other call is: call 2 or call 1.
+fn check_of(of_log: bool) -> Call
+    ensures { Lends result }
 {
-    if let Some(event) = read_section(alloc, words, b"append", EVENT_ROOM)? {
-        return Ok(Some(Call::Append(event)));
+    if of_log {
+        Call::CheckLog
+    } else {
+        Call::CheckTerms
+    }
+}
+
+// The call that is asked for, if one is. The event of an append goes into the state.
+fn read_call(words: &mut Words<'_>, state: &mut State) -> Result<Option<Call>, Failure>
+    ensures falls { left words.new ≤ left words.old }
+    ensures lends { IfOk result (λ asked. IfSome asked (λ call. Lends call)) }
+{
+    if read_section(words, b"append", &mut state.event)? {
+        return Ok(Some(Call::Append));
     }
     if words.take(b"report") {
         return Ok(Some(read_report(words)?));
@@ -167,31 +170,24 @@ fn read_call(alloc: Global, words: &mut Words<'_>) -> Result<Option<Call>, Failu
     Ok(None)
 }
 
-// The next case. Without a word for a call it asks for call 2 if log, held or used stands there, else for call 1.
-pub(crate) fn read_case<'a>(alloc: Global, words: &mut Words<'a>) -> Result<Case<'a>, Failure>
-    ensures { OnOk result (left words.new < left words.old) }
+// The next case. Its bytes and its used length go into the state; if it gives no terms, those of the case before stay.
+// Without a word for a call it asks for call 2 if log, held or used stands there, else for call 1.
+pub(crate) fn read_case<'a>(words: &mut Words<'a>, state: &mut State) -> Result<Case<'a>, Failure>
+    ensures falls { OnOk result (left words.new < left words.old) }
+    ensures lends { IfOk result (λ case. Lends case.call) }
 {
     if !words.take(b"case") {
         return Err(Failure::BadInput);
     }
     let name = words.next().ok_or(Failure::BadInput)?;
-    let terms = read_section(alloc, words, b"terms", TERMS_ROOM)?;
-    let log = read_log(alloc, words)?;
+    read_section(words, b"terms", &mut state.terms)?;
+    let of_log = read_log(words, state)?;
     let used = read_used(words)?;
-    let check = if log.is_some() || used.is_some() {
-        Call::CheckLog
-    } else {
-        Call::CheckTerms
-    };
-    let call = read_call(alloc, words)?.unwrap_or(check);
+    state.used = used.unwrap_or(state.used);
+    let check = check_of(of_log || used.is_some());
+    let call = read_call(words, state)?.unwrap_or(check);
     if !words.is_at(b"case") {
         return Err(Failure::BadInput);
     }
-    Ok(Case {
-        name,
-        terms,
-        log: log.unwrap_or(Log::Given(Vec::new(alloc))),
-        used,
-        call,
-    })
+    Ok(Case { name, call })
 }

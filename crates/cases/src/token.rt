@@ -1,19 +1,11 @@
 // Bytes and numbers as words write them.
-ghost use Rattle.std.specs.Prelude.{◌<◌, ◌≤◌, IfSome, OnOk, vec_len};
+ghost use Rattle.std.specs.Prelude.{◌<◌, ◌≤◌, IfSome, length};
 
+use crate::room::Room;
 use console::Failure;
-use std::alloc::{AllocError, Global};
 
 // How many bytes there is room for of a step.
 const STEP_ROOM: usize = 256;
-
-// So many copies of bytes, with a step added to them from one to the next.
-#[derive(Drop)]
-pub(crate) struct Token {
-    bytes: Vec<u8>,
-    step: Vec<u8>,
-    copies: usize,
-}
 
 // The value of a hexadecimal digit, in capitals.
 fn digit(byte: u8) -> Option<u8>
@@ -31,75 +23,101 @@ pub(crate) fn starts_token(word: &[u8]) -> bool {
     word.first().is_some_and(|byte| digit(*byte).is_some())
 }
 
-// The byte that two digits stand for.
-fn byte_of(digits: &[u8]) -> Option<u8> {
-    let [high, low] = digits else {
+// The byte that two digits at the front of a text stand for, and what stands after them.
+fn split_byte(text: &[u8]) -> Option<(u8, &[u8])>
+    ensures { IfSome result (λ found. length found.1.now < length text.now) }
+{
+    if text.len() < 2 {
         return None;
-    };
-    Some(digit(*high)? * 16 + digit(*low)?)
+    }
+    Some((digit(text[0])? * 16 + digit(text[1])?, &text[2..]))
 }
 
-// The bytes that digits stand for, two for each. There is at least one.
-fn bytes_of(alloc: Global, digits: &[u8]) -> Result<Vec<u8>, Failure> {
-    let mut bytes = Vec::new(alloc);
-    for pair in digits.chunks(2) {
-        bytes.push(byte_of(pair).ok_or(Failure::BadInput)?)?;
+// Puts the bytes that the digits at the front of a text stand for into a room. There is at least one. What stands after the digits.
+fn put_digits<'a, const SIZE: usize>(
+    text: &'a [u8],
+    room: &mut Room<SIZE>,
+) -> Result<&'a [u8], Failure>
+    ensures { room.old.filled ≤ room.new.filled }
+{
+    let mut rest = text;
+    while let Some((byte, after)) = split_byte(rest) {
+        room.push(byte)?;
+        rest = after;
     }
-    if bytes.is_empty() {
+    if rest.len() == text.len() {
         return Err(Failure::BadInput);
     }
-    Ok(bytes)
+    Ok(rest)
 }
 
 // The number that a word stands for, if it is of decimal digits and fits.
 pub(crate) fn number_of(word: &[u8]) -> Option<usize> {
-    if !word.iter().all(|byte| byte.is_ascii_digit()) {
+    if word.is_empty() {
         return None;
     }
-    str::from_utf8(word).ok()?.parse().ok()
-}
-
-// What stands before and after the first such mark in a word.
-fn split_once(word: &[u8], mark: u8) -> Option<(&[u8], &[u8])> {
-    let at = word.iter().position(|byte| *byte == mark)?;
-    Some((&word[..at], &word[at + 1..]))
-}
-
-impl Token {
-    // The token that a word writes.
-    pub(crate) fn read(alloc: Global, word: &[u8]) -> Result<Token, Failure> {
-        let (word, copies) = match split_once(word, b'*') {
-            Some((word, copies)) => (word, number_of(copies).ok_or(Failure::BadInput)?),
-            None => (word, 1),
-        };
-        let (word, step) = match split_once(word, b'+') {
-            Some((word, step)) => (word, bytes_of(alloc, step)?),
-            None => (word, Vec::new(alloc)),
-        };
-        let bytes = bytes_of(alloc, word)?;
-        if copies == 0 || STEP_ROOM < step.len() {
-            return Err(Failure::BadInput);
+    let mut number: usize = 0;
+    for byte in word {
+        if !byte.is_ascii_digit() {
+            return None;
         }
-        Ok(Token {
-            bytes,
-            step,
-            copies,
-        })
+        number = number
+            .checked_mul(10)?
+            .checked_add(usize::from(*byte - b'0'))?;
     }
+    Some(number)
+}
 
-    // Puts the copies after others, where there is room for so many bytes.
-    pub(crate) fn put(mut self, to: &mut Vec<u8>, room: usize) -> Result<(), Failure>
-        ensures { vec_len to.old ≤ room → OnOk result (vec_len to.new ≤ room) }
-    {
-        for _ in 0..self.copies {
-            if room.saturating_sub(to.len()) < self.bytes.len() {
-                return Err(Failure::BadInput);
-            }
-            to.extend_from_slice(&self.bytes)?;
-            for (byte, step) in self.bytes.iter_mut().zip(&self.step) {
-                *byte = byte.wrapping_add(*step);
-            }
-        }
-        Ok(())
+// How many copies of its bytes the end of a word asks for.
+fn copies_of(rest: &[u8]) -> Result<usize, Failure> {
+    match rest.first() {
+        None => Ok(1),
+        Some(b'*') => number_of(&rest[1..])
+            .filter(|copies| *copies != 0)
+            .ok_or(Failure::BadInput),
+        Some(_) => Err(Failure::BadInput),
+    }
+}
+
+// Puts the last so many bytes of a room there again, until there are so many copies, a step added from one to the next.
+fn put_copies<const SIZE: usize>(
+    room: &mut Room<SIZE>,
+    size: usize,
+    copies: usize,
+    step: &[u8],
+) -> Result<(), Failure>
+    requires { size ≤ room.old.filled }
+{
+    for _ in 1..copies {
+        room.repeat(size, step)?;
+    }
+    Ok(())
+}
+
+// The same, with the step and the copies that a text writes. A function of its own: room for a step is cleared only where there is one.
+fn put_stepped<const SIZE: usize>(
+    room: &mut Room<SIZE>,
+    size: usize,
+    text: &[u8],
+) -> Result<(), Failure>
+    requires { size ≤ room.old.filled }
+{
+    let mut step: Room<STEP_ROOM> = Room::empty();
+    let rest = put_digits(text, &mut step)?;
+    put_copies(room, size, copies_of(rest)?, step.bytes())
+}
+
+// Puts the bytes that a word writes into a room: digits, a step after '+', and how many copies there are after '*'.
+pub(crate) fn put_token<const SIZE: usize>(
+    word: &[u8],
+    room: &mut Room<SIZE>,
+) -> Result<(), Failure> {
+    let start = room.filled;
+    let rest = put_digits(word, room)?;
+    let size = room.filled - start;
+    if rest.first() == Some(&b'+') {
+        put_stepped(room, size, &rest[1..])
+    } else {
+        put_copies(room, size, copies_of(rest)?, &[])
     }
 }

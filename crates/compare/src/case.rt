@@ -1,8 +1,11 @@
 // A generated case: what the calls are lent, and what the second implementation answered and left in memory.
+ghost use Rattle.std.specs.Prelude.{◌≡◌, ◌≤◌, IfOk, length};
+ghost use Rattle.std.specs.Io.KnownBytes.{Consumes};
+ghost use Rattle.compare.specs.declared.case.TheConstants.{PAGE_ROOM};
+
 use crate::answer::Answer;
 use console::{Failure, read_bytes, read_number};
 use meaning::{Entries, Time};
-use std::alloc::Global;
 use std::io::Read;
 
 // What stands for an entry that is not yet.
@@ -15,7 +18,32 @@ const LOG_ROOM: usize = 32800;
 
 const EVENT_ROOM: usize = 100;
 
-const PAGE_ROOM: usize = 2000;
+pub(crate) const PAGE_ROOM: usize = 2000;
+
+// How many bytes a head has: twenty numbers.
+const HEAD_LENGTH: usize = 80;
+
+// Room for the bytes of a case, used again for the next.
+#[derive(Drop)]
+pub(crate) struct Room {
+    terms: [u8; TERMS_ROOM],
+    log: [u8; LOG_ROOM],
+    event: [u8; EVENT_ROOM],
+    log_after: [u8; LOG_ROOM],
+    page_after: [u8; PAGE_ROOM],
+}
+
+impl Room {
+    pub(crate) fn new() -> Room {
+        Room {
+            terms: [0; TERMS_ROOM],
+            log: [0; LOG_ROOM],
+            event: [0; EVENT_ROOM],
+            log_after: [0; LOG_ROOM],
+            page_after: [0; PAGE_ROOM],
+        }
+    }
+}
 
 // The second implementation's answers.
 #[derive(Clone, Copy)]
@@ -29,17 +57,18 @@ pub(crate) struct Answers {
 
 // A case; the log buffer and the page as the calls are to leave them come last.
 #[derive(Drop)]
-pub(crate) struct Case {
-    pub terms: Vec<u8>,
-    pub log: Vec<u8>,
+pub(crate) struct Case<'a> {
+    pub terms: &'a [u8],
+    pub log: &'a mut [u8],
     pub used: usize,
-    pub event: Vec<u8>,
+    pub event: &'a [u8],
     pub moment: u32,
     pub schema: usize,
     pub key: u32,
     pub answers: Answers,
-    pub log_after: Vec<u8>,
-    pub page_after: Vec<u8>,
+    pub log_after: &'a [u8],
+    pub page_after: &'a [u8],
+    ghost page_fits: { length page_after.now ≤ PAGE_ROOM },
 }
 
 // The next number, as a count.
@@ -48,7 +77,9 @@ fn read_count<R: Read>(input: &mut R) -> Result<usize, Failure> {
 }
 
 // How many bytes there are: the next number, but no more than there is room for.
-fn read_length<R: Read>(input: &mut R, room: usize) -> Result<usize, Failure> {
+fn read_length<R: Read>(input: &mut R, room: usize) -> Result<usize, Failure>
+    ensures { IfOk result (λ length. length ≤ room) }
+{
     Ok(read_count(input)?.min(room))
 }
 
@@ -101,27 +132,54 @@ fn read_answers<R: Read>(input: &mut R) -> Result<Answers, Failure> {
     })
 }
 
-// The next case: its head, then the bytes.
-pub(crate) fn read_case<R: Read>(alloc: Global, input: &mut R) -> Result<Case, Failure> {
-    let of_terms = read_length(input, TERMS_ROOM)?;
-    let of_log = read_length(input, LOG_ROOM)?;
-    let used = read_count(input)?;
-    let of_event = read_length(input, EVENT_ROOM)?;
-    let of_page = read_length(input, PAGE_ROOM)?;
-    let moment = read_number(input)?;
-    let schema = read_count(input)?;
-    let key = read_number(input)?;
-    let answers = read_answers(input)?;
+// Fills the front of a buffer with the next bytes of the input, and hands it back.
+fn read_part<'a, R: Read>(
+    input: &mut R,
+    buffer: &'a mut [u8],
+    size: usize,
+) -> Result<&'a mut [u8], Failure>
+    requires { size ≤ length buffer.old }
+    ensures { IfOk result (λ part. (length part.now ≡ size) × Consumes (R.remaining input.old) (R.remaining input.new) part.now) }
+{
+    let part = &mut buffer[..size];
+    read_bytes(input, part)?;
+    Ok(part)
+}
+
+// The next case: its head, read at once, then the bytes.
+pub(crate) fn read_case<'a, R: Read>(
+    room: &'a mut Room,
+    input: &mut R,
+) -> Result<Case<'a>, Failure> {
+    let Room {
+        terms,
+        log,
+        event,
+        log_after,
+        page_after,
+    } = room;
+    let mut head = [0; HEAD_LENGTH];
+    read_bytes(input, &mut head)?;
+    let mut numbers = &head[..];
+    let of_terms = read_length(&mut numbers, TERMS_ROOM)?;
+    let of_log = read_length(&mut numbers, LOG_ROOM)?;
+    let used = read_count(&mut numbers)?;
+    let of_event = read_length(&mut numbers, EVENT_ROOM)?;
+    let of_page = read_length(&mut numbers, PAGE_ROOM)?;
+    let moment = read_number(&mut numbers)?;
+    let schema = read_count(&mut numbers)?;
+    let key = read_number(&mut numbers)?;
+    let answers = read_answers(&mut numbers)?;
     Ok(Case {
-        terms: read_bytes(alloc, input, of_terms)?,
-        log: read_bytes(alloc, input, of_log)?,
+        terms: read_part(input, terms, of_terms)?,
+        log: read_part(input, log, of_log)?,
         used,
-        event: read_bytes(alloc, input, of_event)?,
+        event: read_part(input, event, of_event)?,
         moment,
         schema,
         key,
         answers,
-        log_after: read_bytes(alloc, input, of_log)?,
-        page_after: read_bytes(alloc, input, of_page)?,
+        log_after: read_part(input, log_after, of_log)?,
+        page_after: read_part(input, page_after, of_page)?,
     })
 }

@@ -1,7 +1,7 @@
 -- A row that is read from eighteen bytes has these bytes. Assumes nothing.
 use Rattle.std.proofs.Common.{arith, ◌≡◌, refl, ap, sym, ◌∙◌, ℕ, suc, ◌+◌, ◌≤◌, ◌<◌, List, [], ◌∷◌, ◌++◌, length, take, drop, get_or}
-use Rattle.std.proofs.lemmas.Grind.{common_steps}
-use Rattle.std.proofs.lemmas.List.{take-append-drop, drop_all, append-nil}
+use Rattle.std.proofs.lemmas.Grind.{common_steps, flat_map-append}
+use Rattle.std.proofs.lemmas.List.{take-append-drop, drop_all, append-nil, append_assoc}
 use lib.ListN.{length-drop, length-append}
 use lib.Seq.{drop-drop, take_at}
 use Rattle.meaning.specs.Lists.{All}
@@ -16,7 +16,7 @@ use Rattle.format.specs.Records.{row_bytes, row_length, value_width}
 use Rattle.meaning.proofs.ListLaws.{all_drop}
 use Rattle.format.proofs.NumberLaws.{front_bytes}
 use Rattle.format.proofs.RowBytesLaws.{row-length}
-use Rattle.console.specs.Rows.{StartsWithRow}
+use Rattle.console.specs.Rows.{StartsWithRow, rows_bytes}
 
 -- bytes, one by one, are bytes
 pub all-bytes : (s : List ℕ) → ((i : ℕ) → get_or s i 0 < 256) → All (λ b. b < 256) s
@@ -111,3 +111,12 @@ unfolding row_bytes
 row_back stage [] long h e = absurd (omega (arith, long))
 row_back stage (a ∷ []) long h e = absurd (omega (arith, long))
 row_back stage (a ∷ b ∷ s) long h e = ap (λ (t : List ℕ). stage_number stage ∷ b ∷ t) (numbers_back (a ∷ b ∷ s) long h) ∙ ap (λ (x : ℕ). x ∷ b ∷ s) e
+
+-- a row more, before what it leaves
+pub row_more : (rows : List Row) (row : Row) (left : List ℕ) {rest page : List ℕ} → rows_bytes rows ++ rest ≡ page → row_bytes value_width row ++ left ≡ rest → rows_bytes (rows ++ row ∷ []) ++ left ≡ page
+row_more rows row left whole front =
+    ap (λ (t : List ℕ). t ++ left) (flat_map-append (row_bytes value_width) rows (row ∷ []))
+    ∙ append_assoc (rows_bytes rows) (rows_bytes (row ∷ [])) left
+    ∙ ap (λ (t : List ℕ). rows_bytes rows ++ (t ++ left)) (append-nil (row_bytes value_width row))
+    ∙ ap (λ (t : List ℕ). rows_bytes rows ++ t) front
+    ∙ whole

@@ -1,8 +1,7 @@
-// What the programs share: the reading of their input, and the rows of a report as values.
+// What the programs share: buffers filled from their input, and the rows of a report as values and lines.
 #![tactic(auto)]
 
-ghost use Rattle.std.specs.Prelude.{◌≡◌, ◌≢◌, ℕ, ◌⊎◌, List, ◌++◌, IfOk, IfSome, IsFalse, IsNone, IsOk, length, take, vec_len};
-ghost use Rattle.std.specs.Io.{StartsWith};
+ghost use Rattle.std.specs.Prelude.{◌≡◌, ◌≢◌, ℕ, ◌⊎◌, List, ◌++◌, IfOk, IfSome, IsFalse, IsNone, IsOk, OnOk, ◌≤◌, length, take};
 ghost use Rattle.std.specs.Io.KnownBytes.{Consumes};
 ghost use Rattle.meaning.specs.declared.Row.{Row};
 ghost use Rattle.format.specs.Bytes.{bytes_of};
@@ -12,11 +11,10 @@ ghost use Rattle.console.specs.Rows.{StartsWithRow, rows_bytes};
 use grammar::u32_at;
 use meaning::{Row, Stage};
 use report::ROW_LENGTH;
-use std::alloc::{AllocError, AllocFailed, Global};
 use std::io;
-use std::io::{ErrorKind, Read};
+use std::io::Read;
 
-// Why a program stops: its input is not written as it has to be, or memory or the output failed.
+// Why a program stops: its input is not written as it has to be, or its output failed.
 #[derive(Debug, Drop)]
 pub enum Failure {
     BadInput,
@@ -29,39 +27,26 @@ impl From<io::Error> for Failure {
     }
 }
 
-impl From<AllocError> for Failure {
-    fn from(error: AllocError) -> Failure {
-        Failure::Io(io::Error::from(error))
-    }
-}
-
-impl<T: Drop> From<AllocFailed<T>> for Failure {
-    fn from(error: AllocFailed<T>) -> Failure {
-        Failure::from(AllocError::from(error))
-    }
-}
-
-// The next bytes of the input, so many. It is bad where it ends before them or fails.
-pub fn read_bytes<R: Read>(alloc: Global, input: &mut R, count: usize) -> Result<Vec<u8>, Failure>
-    ensures length { IfOk result (λ bytes. vec_len bytes ≡ count) }
-    ensures bytes { IfOk result (λ bytes. Consumes (R.remaining input.old) (R.remaining input.new) bytes.items) }
+// Fills a buffer with the next bytes of the input. It is bad where it ends before them or fails.
+pub fn read_bytes<R: Read>(input: &mut R, bytes: &mut [u8]) -> Result<(), Failure>
+    ensures { OnOk result (Consumes (R.remaining input.old) (R.remaining input.new) bytes.new) }
 {
-    let mut bytes = vec![in alloc; 0; count]?;
-    match input.read_exact(&mut bytes) {
-        Ok(()) => Ok(bytes),
-        Err(_) => Err(Failure::BadInput),
-    }
+    input.read_exact(bytes).map_err(|_| Failure::BadInput)
 }
 
-// The bytes of the input, up to so many. They end where it ends or fails.
-pub fn read_up_to<R: Read + Drop>(alloc: Global, input: R, count: usize) -> io::Result<Vec<u8>>
-    ensures { IfOk result (λ bytes. IfSome (R.remaining input) (λ all. StartsWith (take count all) bytes.items)) }
+// Fills a buffer with the bytes of the input, as far as there are any. How many there are; they end where it ends or fails.
+pub fn read_up_to<R: Read>(input: &mut R, buffer: &mut [u8]) -> usize
+    ensures fits { result ≤ length buffer.new }
+    ensures bytes { Consumes (R.remaining input.old) (R.remaining input.new) (take result buffer.new) }
 {
-    let mut bytes = Vec::new(alloc);
-    match input.take(count as u64).read_to_end(&mut bytes) {
-        Err(error) if error.kind() == ErrorKind::OutOfMemory => Err(error),
-        _ => Ok(bytes),
+    let mut filled = 0;
+    while filled < buffer.len() {
+        match input.read(&mut buffer[filled..]) {
+            Ok(0) | Err(_) => break,
+            Ok(count) => filled += count,
+        }
     }
+    filled
 }
 
 // The number that four bytes stand for.
@@ -132,19 +117,17 @@ pub fn split_row(bytes: &[u8]) -> Option<(Row, &[u8])>
     Some((row_of(row)?, rest))
 }
 
-// The rows at the front of a page, as many as are asked for and there, and the bytes after them.
-pub fn split_rows(alloc: Global, page: &[u8], count: usize) -> Result<(Vec<Row>, &[u8]), AllocError>
-    ensures rows { IfOk result (λ found. rows_bytes found.0.items ++ found.1.now ≡ page.now) }
-    ensures count { IfOk result (λ found. (vec_len found.0 ≡ count) ⊎ ¬ (StartsWithRow found.1.now)) }
+// Prints the rows at the front of a page, as many as are asked for and there, each after a margin. The bytes after them.
+pub fn say_rows<'a>(rt: &impl Print, margin: &str, page: &'a [u8], count: usize) -> &'a [u8]
+    ensures { (rows : List Row) × (rows_bytes rows ++ result.now ≡ page.now) × (length rows ≤ count) × ((length rows ≡ count) ⊎ ¬ (StartsWithRow result.now)) }
 {
-    let mut rows = Vec::new(alloc);
     let mut rest = page;
     for _ in 0..count {
         let Some((row, left)) = split_row(rest) else {
             break;
         };
-        rows.push(row)?;
+        let _ = println!(rt; "{margin}{row}");
         rest = left;
     }
-    Ok((rows, rest))
+    rest
 }

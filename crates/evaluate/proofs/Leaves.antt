@@ -2,6 +2,7 @@
 --     plain_known, open-known                   a bound without an event is known from the start
 --     first-here                                an event's earliest happening
 --     event-never, plus-known, minus-known      a bound with an event, by its earliest happening
+--     since-first, never-first                  that happening, by what is known of the bound
 --     occurs, occurs-no-…                       when a leaf occurs, and when not
 --     fails-empty, fails-missed                 when a leaf fails at its end, the upper bound
 --     fails-no-…, fails-unreached, fails_met    when it does not
@@ -9,10 +10,12 @@
 --     early-first                               when a leaf fails early, before its lower bound
 --     early-zero, early-recurs, early-never,    when it does not
 --         early-no-lower, early-open
+--     ends-first                                a failure at its end that is no later than the only happening
 --     either_failure                            it fails at its end or early
 --     count-no-…, count-more, count-few         the times of a count
 -- Assumes nothing.
 use Prim.Native.Nat.{ℕ, ◌+◌, ◌-◌, ◌≤◌, ◌<◌}
+use native.Mathlib.Omega.{arith}
 use mathlib.Core.Path.{◌≡◌, refl, ap, ap₂, sym, ◌∙◌, fun_ext}
 use mathlib.Core.Logic.{◌⊎◌, inl, inr}
 use mathlib.Core.Bool.{Bool, true, false}
@@ -30,12 +33,12 @@ use Rattle.meaning.specs.declared.Atom.TheVariants.{Counts}
 use Rattle.meaning.specs.declared.Edge.{Edge}
 use Rattle.meaning.specs.declared.Edge.TheVariants.{Minute, Endless}
 use Rattle.meaning.specs.declared.Times.{Times}
-use Rattle.meaning.specs.Time.{later_of, earlier_of, once_known, if_never, only_if}
+use Rattle.meaning.specs.Time.{later_of, earlier_of, from, once_known, if_never, only_if}
 use Rattle.meaning.specs.Terms.{leaf}
 use Rattle.meaning.specs.Meaning.{StageTimes, cited, from_edge, before_edge, reached, edge_of, comes_once, first, first_within, known, leaf_occurrence, failure_at, failure_at_end, first_before, early_failure, leaf_failure, count_within, count_time, times_of, stage_time}
 use Rattle.format.specs.Fields.{terms_of}
 use Rattle.format.specs.Records.{value_width, records_in}
-use Rattle.meaning.proofs.TimeLaws.{if_never-never, once_known-never, only_if-never}
+use Rattle.meaning.proofs.TimeLaws.{Side, early, late, side, before-lt, before-le, if_never-never, once_known-never, only_if-never}
 use Rattle.meaning.proofs.EdgeLaws.{first-whole, never-within, none-before}
 use Rattle.meaning.proofs.Once.{HappensOnce, only-within}
 use Rattle.records.specs.Holds.{record_at}
@@ -59,6 +62,16 @@ known-never b Never e f = refl
 never-settled : (g h : ℕ) → later_of (At g) (later_of (At h) Never) ≡ Never
 unfolding later_of
 never-settled g h = refl
+
+-- what is none or at f, since whenever it is known, comes after a time at e that is no later
+later-kept : (e f : ℕ) (t : Time) (b : ℕ → Time) → e ≤ f → ((g : ℕ) → (b g ≡ Never) ⊎ (b g ≡ At f)) → At e ≡ earlier_of (At e) (once_known t b)
+unfolding once_known later_of earlier_of
+later-kept e f Never b h all = refl
+later-kept e f (At g) b h all = go (all g)
+  where
+    go : (b g ≡ Never) ⊎ (b g ≡ At f) → At e ≡ earlier_of (At e) (later_of (At g) (b g))
+    go (inl q) = rw q
+    go (inr q) = rw q (ap At (omega arith))
 
 module _ (terms log : List ℕ) (k subject : ℕ) where
   -- a plain bound is known from the start
@@ -93,6 +106,14 @@ module _ (terms log : List ℕ) (k subject : ℕ) where
       pub minus-known : b ≡ Minus e n → u ≡ Minute (g - n) → Some (record { edge = u; since = g }) ≡ known_as b (under known terms log k subject b)
       unfolding under known known_as edge_of
       minus-known p q = rw (p, q) (sym (ap (known_as (Minus e n)) (sym here ∙ at)))
+
+  -- by what is known of a bound, the earliest happening of its event
+  module _ (b : Bound) (e : Event) (of : under known terms log k subject b ≡ under first terms log k subject e) {r : Option Known} (here : r ≡ known_as b (under known terms log k subject b)) where
+    pub since-first : {v : Known} → r ≡ Some v → At v.since ≡ under first terms log k subject e
+    since-first p = sym (known_at b _ here p).0 ∙ of
+
+    pub never-first : r ≡ None → Never ≡ under first terms log k subject e
+    never-first p = sym (known-never b _ here p) ∙ of
 
   module _ (x : Leaf) where
     module _ {r : Option Known} (lower : r ≡ known_as x.lower (under known terms log k subject x.lower)) where
@@ -207,6 +228,21 @@ module _ (terms log : List ℕ) (k subject : ℕ) where
               → a ≡ under early_failure terms log k subject x
           unfolding under first_before
           early-first {l} p e q = q ∙ early-by (rw p (only-here (Minute 0) (Minute l) (rw p at e)))
+
+      -- what is before an edge is the only happening or none
+      only-or-none : {f : ℕ} → only ≡ At f → (l : Edge) → (under first_before terms log k subject l x.event ≡ Never) ⊎ (under first_before terms log k subject l x.event ≡ At f)
+      unfolding under first_before from_edge before_edge from
+      only-or-none p Endless = inl refl
+      only-or-none {f} p (Minute l) = go (side l f)
+        where
+          go : Side l f → (under first_within terms log k subject (Minute 0) (Minute l) x.event ≡ Never) ⊎ (under first_within terms log k subject (Minute 0) (Minute l) x.event ≡ At f)
+          go (early h) = inr (sym (only-here (Minute 0) (Minute l) (rw (p, before-lt l f h, le-leb 0 f (omega arith)) refl)))
+          go (late h) = inl (sym (only-here (Minute 0) (Minute l) (rw (p, before-le l f h) refl)))
+
+      -- early it fails no sooner than the only happening: a failure at its end that is no later comes first
+      pub ends-first : {e f : ℕ} {a : Time} → only ≡ At f → e ≤ f → a ≡ At e → a ≡ under failure_at_end terms log k subject x → a ≡ under leaf_failure terms log k subject x
+      unfolding under leaf_failure early_failure only_if
+      ends-first {e} {f} p h is end = rw (yes, ← end, is) (later-kept e f _ _ h (λ g. only-or-none p (edge_of x.lower g)))
 
     -- it fails at its end or early
     pub either_failure : {a b c : Time} → a ≡ under failure_at_end terms log k subject x → b ≡ under early_failure terms log k subject x

@@ -1,13 +1,15 @@
 -- The model's meaning of what is asked for a clause. Assumes nothing: these are definitions.
-use Rattle.std.specs.Prelude.{ℕ, ◌+◌, ◌*◌, ◌≡◌, true, Option, Some, None}
+use Rattle.std.specs.Prelude.{ℕ, ◌+◌, ◌*◌, ◌≡◌, true, ⊤, Option, Some, None}
 use Rattle.meaning.specs.declared.Time.{Time}
 use Rattle.meaning.specs.declared.Time.TheVariants.{Never}
 use Rattle.meaning.specs.declared.Leaf.{Leaf}
 use Rattle.meaning.specs.Terms.{Terms}
 use Rattle.meaning.specs.Log.{Record, Log}
-use Rattle.meaning.specs.Meaning.{StageTimes, comes_once, first, early_failure}
+use Rattle.meaning.specs.Meaning.{StageTimes, comes_once, first, known, early_failure}
 use Rattle.accepted.specs.declared.Subject.{Subject}
-use Rattle.evaluate.specs.Seen.{under}
+use Rattle.evaluate.specs.declared.Known.{Known}
+use Rattle.evaluate.specs.declared.Happened.{Happened}
+use Rattle.evaluate.specs.Seen.{under, known_as}
 use Rattle.evaluate.specs.declared.clause.Clause.{Clause}
 use Rattle.evaluate.specs.declared.clause.Clauses.{Clauses}
 
@@ -26,3 +28,13 @@ ClausesOf s j c =
 abbrev pub OnlyOf : Clause → Leaf → Option Time → Type 0
 OnlyOf c x None = asked early_failure c x ≡ Never
 OnlyOf c x (Some t) = (asked (λ times terms log subject. comes_once terms subject x.event) c ≡ true) × (t ≡ asked first c x.event)
+
+-- what is known of a leaf's lower bound beforehand. None: nothing. Some: this is that bound, or that it is unknown
+abbrev pub LowerOf : Clause → Leaf → Option (Option Known) → Type 0
+LowerOf c x None = ⊤
+LowerOf c x (Some bound) = bound ≡ known_as x.lower (asked known c x.lower)
+
+-- what is known of an event's earliest happening beforehand. None: nothing. Some: this is its time, or that it never happens
+abbrev pub HappenedOf : Clause → Option Happened → Type 0
+HappenedOf c None = ⊤
+HappenedOf c (Some h) = h.first ≡ asked first c h.event

@@ -3,10 +3,9 @@
 
 ghost use Rattle.std.specs.Prelude.{◌≤◌, IfOk};
 
-use console::{Failure, at_end, end, read_bytes, read_number, split_rows};
+use console::{Failure, at_end, end, read_bytes, read_number, say_rows};
 use event_log::LOG_LIMIT;
 use report::report;
-use std::alloc::Global;
 use std::io;
 use std::io::Read;
 use terms::TERMS_LIMIT;
@@ -15,10 +14,10 @@ use terms::TERMS_LIMIT;
 const PAGE_LENGTH: usize = 65520;
 
 // What the input asks for: the report on terms and a log at a moment.
-#[derive(Drop)]
-struct Request {
-    terms: Vec<u8>,
-    log: Vec<u8>,
+#[derive(Clone, Copy)]
+struct Request<'a> {
+    terms: &'a [u8],
+    log: &'a [u8],
     moment: u32,
 }
 
@@ -33,13 +32,19 @@ fn read_length<R: Read>(input: &mut R, limit: usize) -> Result<usize, Failure>
     Ok(length)
 }
 
-// Reads the whole input.
-fn read_request<R: Read>(alloc: Global, input: &mut R) -> Result<Request, Failure> {
+// Reads the whole input, the terms and the log into room for the longest ones.
+fn read_request<'a, R: Read>(
+    input: &mut R,
+    terms: &'a mut [u8; TERMS_LIMIT],
+    log: &'a mut [u8; LOG_LIMIT],
+) -> Result<Request<'a>, Failure> {
     let of_terms = read_length(input, TERMS_LIMIT)?;
     let of_log = read_length(input, LOG_LIMIT)?;
     let moment = read_number(input)?;
-    let terms = read_bytes(alloc, input, of_terms)?;
-    let log = read_bytes(alloc, input, of_log)?;
+    let terms = &mut terms[..of_terms];
+    let log = &mut log[..of_log];
+    read_bytes(input, terms)?;
+    read_bytes(input, log)?;
     if !at_end(input) {
         return Err(Failure::BadInput);
     }
@@ -47,28 +52,28 @@ fn read_request<R: Read>(alloc: Global, input: &mut R) -> Result<Request, Failur
 }
 
 // Prints the rows of the report, or its refusal.
-fn list(rt: &impl Print, alloc: Global, request: &Request) -> io::Result<()> {
-    let mut page = vec![in alloc; 0; PAGE_LENGTH]?;
-    let log = &request.log;
-    match report(&request.terms, log, log.len(), request.moment, &mut page) {
+fn list(rt: &impl Print, request: Request<'_>) -> io::Result<()> {
+    let Request { terms, log, moment } = request;
+    let mut page = [0; PAGE_LENGTH];
+    match report(terms, log, log.len(), moment, &mut page) {
         Err(refusal) => println!(rt; "{refusal}"),
         Ok(count) => {
-            let (rows, _) = split_rows(alloc, &page, count)?;
-            for row in &rows {
-                println!(rt; "{row}")?;
-            }
+            say_rows(rt, "", &page, count);
             Ok(())
         }
     }
 }
 
-// Reads the input and lists its report.
-fn run(rt: &(impl Print + Input), alloc: Global) -> Result<(), Failure> {
-    let request = read_request(alloc, &mut rt.reader())?;
-    list(rt, alloc, &request)?;
+// Reads the input and lists its report. All memory is here and in `list`, so that none can be wanting.
+fn run(rt: &(impl Print + Input)) -> Result<(), Failure> {
+    let mut terms = [0; TERMS_LIMIT];
+    let mut log = [0; LOG_LIMIT];
+    let request = read_request(&mut rt.reader(), &mut terms, &mut log)?;
+    list(rt, request)?;
     Ok(())
 }
 
-fn main(rt: HostRuntime) -> io::Result<()> {
-    end(&rt, run(&rt, rt.alloc()), "bad input")
+// Output that cannot be written has no sign of its own.
+fn main(rt: HostRuntime) {
+    let _ = end(&rt, run(&rt), "bad input");
 }

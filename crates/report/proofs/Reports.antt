@@ -27,15 +27,21 @@ module _ (terms log : List ℕ) (used m : ℕ) (page : List ℕ) where
   unfolding counted_answer report on_page
   report-refused {x = x} is e = refused-outcome x (log-refused terms log used is e (page_checks value_width (rows_of value_width terms log used m) page)) page _
 
+  -- what was accepted is these terms and the used bytes of the log
   module _ (kept : (more : List Check) → refusal (log_checks value_width terms log used ++ more) ≡ refusal more)
-      {short : Bool} (measured : short ≡ ltb (length page) (row_length value_width * length (schemas_from terms (take used log) m 0))) where
+      {under bytes : List ℕ} (these : under ≡ terms) (used_bytes : bytes ≡ take used log)
+      {short : Bool} (measured : short ≡ ltb (length page) (row_length value_width * length (schemas_from under bytes m 0))) where
+    -- its rows are the report's
+    rows : rows_of value_width terms log used m ≡ schemas_from under bytes m 0
+    rows = rw (these, used_bytes) (all-rows terms log used m)
+
     -- a page that is too short for the rows
     pub report-short : short ≡ true → outcome (counted_answer (Err PageTooShort)) page ≡ report value_width terms log used m page
     unfolding counted_answer report on_page unless_refused page_checks page_too_short refusal
-    report-short h = rw (kept, all-rows terms log used m, ← measured, h)
+    report-short h = rw (kept, rows, ← measured, h)
 
     -- one that has room for them
-    pub report-written : short ≡ false → {count : ℕ} {left : List ℕ} → (count ≡ length (schemas_from terms (take used log) m 0)) × (left ≡ with_rows page 0 (schemas_from terms (take used log) m 0))
+    pub report-written : short ≡ false → {count : ℕ} {left : List ℕ} → (count ≡ length (schemas_from under bytes m 0)) × (left ≡ with_rows page 0 (schemas_from under bytes m 0))
         → outcome (counted_answer (Ok count)) left ≡ report value_width terms log used m page
     unfolding counted_answer report on_page unless_refused page_checks page_too_short refusal with_rows
-    report-written h e = rw (kept, all-rows terms log used m, ← measured, h, e.0, e.1)
+    report-written h e = rw (kept, rows, ← measured, h, e.0, e.1)

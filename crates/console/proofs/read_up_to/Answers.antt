@@ -1,10 +1,14 @@
--- What is read is the front of the input.
-use Rattle.std.specs.Io.Take.{take_remaining}
-use Rattle.console.proofs.InputReading.{taken_front}
+-- What is filled grows by what is read.
+use Rattle.std.proofs.Common.{length, ◌-◌}
+use Rattle.console.proofs.InputReading.{fits-on, filled-on, reads-on}
 use Rattle.console.proofs.read_up_to.Goals as goal
 
-pub returns-in_default : goal.returns-in_default
-returns-in_default g c =
-    taken_front c.args.count (g.R.Read.remaining c.args.input) (take_remaining g.R.Read.remaining c.read_to_end.new.self) c.read_to_end.new.buf.items (
-    rw (c.take.ensures.limit, c.take.ensures.inner, c.new-bytes.ensures.items) at c.read_to_end.ensures.none_lost
+pub loop-filled-preserved : goal.loop-filled-preserved
+loop-filled-preserved g c =
+    let buffer = c.loop-filled.buffer in
+    let filled = c.loop-filled.filled in
+    let room = length buffer - filled in
+    let few = c.in-Ok.ensures.bound.0 in (
+      fits-on filled c.in-Ok.count room buffer c.read.new.buf c.loop-filled.invariant.0 few,
+      rw (filled-on filled c.in-Ok.count room buffer c.read.new.buf c.loop-filled.invariant.0 few) (reads-on _ _ _ _ _ c.loop-filled.invariant.1 c.in-Ok.ensures.bytes.0),
     )

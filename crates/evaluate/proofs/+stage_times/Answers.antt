@@ -1,7 +1,7 @@
 -- The functions of the cycle meet their contracts, their calls within the cycle being smaller. Assumes nothing.
 use Prim.Native.Nat.{ℕ}
 use native.Mathlib.Omega.{arith}
-use mathlib.Core.Path.{◌≡◌, ap, sym, ◌∙◌}
+use mathlib.Core.Path.{◌≡◌, refl, ap, sym, ◌∙◌}
 use mathlib.Core.List.{◌∷◌}
 use mathlib.Core.Logic.{inl, inr}
 use borrow.Author.Rules.{rules}
@@ -18,10 +18,10 @@ use Rattle.marks.specs.Marks.{Marks}
 use Rattle.marks.proofs.Scans.{OfKind, of-mark}
 use Rattle.times.specs.NeededTimes.{needed_of}
 use Rattle.evaluate.specs.declared.clause.Clause.{Clause}
-use Rattle.evaluate.specs.Seen.{log_in, record_in, under}
+use Rattle.evaluate.specs.Seen.{log_in, record_in, under, known_as}
 use Rattle.evaluate.proofs.Happens.{happens-once}
 use Rattle.evaluate.proofs.Expressions.{occurs-times, stage-here}
-use Rattle.evaluate.proofs.Leaves.{event-never, plus-known, count-more, count-few, only-here, early-zero, early-recurs, early-never, early-no-lower, early-open, early-first, fails-empty, fails_met, fails-missed, occurs}
+use Rattle.evaluate.proofs.Leaves.{event-never, plus-known, count-more, count-few, only-here, early-zero, early-recurs, early-never, early-no-lower, early-open, early-first, ends-first, fails-empty, fails_met, fails-missed, occurs}
 use Rattle.evaluate.proofs.Scan.{scan-start, scan-take}
 use Rattle.evaluate.proofs.Weights.{consequent-below}
 use Rattle.evaluate.proofs.+stage_times.Goals.{first_within-After-into_iter-at-iterator, first_within-In-Some}
@@ -56,44 +56,44 @@ count_times-returns-else-count-number t c =
 
 pub early_failure-returns-in_default-first : goal.early_failure-returns-in_default-first
 early_failure-returns-in_default-first t c =
-    let only = rw c.in-Some.is at c.requires in
+    let only = rw c.in-Some.is at c.requires.only_of in
     early-never _ _ _ _ _ (call-once c.args.clause.now) only.0 only.1 c.in_default-first.is
 
-pub early_failure-returns-in_default-known_bound : goal.early_failure-returns-in_default-known_bound
-early_failure-returns-in_default-known_bound t c =
-    let only = rw c.in-Some.is at c.requires in
-    early-no-lower _ _ _ _ _ (call-once c.args.clause.now) only.0 only.1 c.known_bound.ensures c.in_default-known_bound.is
+pub early_failure-returns-in_default-lower_of : goal.early_failure-returns-in_default-lower_of
+early_failure-returns-in_default-lower_of t c =
+    let only = rw c.in-Some.is at c.requires.only_of in
+    early-no-lower _ _ _ _ _ (call-once c.args.clause.now) only.0 only.1 c.lower_of.ensures c.in_default-lower_of.is
 
 pub early_failure-returns-in-Minute : goal.early_failure-returns-in-Minute
 early_failure-returns-in-Minute t c =
-    let only = rw c.in-Some.is at c.requires in
-    early-first _ _ _ _ _ (call-once c.args.clause.now) only.0 only.1 c.known_bound.ensures c.in-Some-known_bound.is c.in-Minute.is c.within.ensures c.later_of.ensures
+    let only = rw c.in-Some.is at c.requires.only_of in
+    early-first _ _ _ _ _ (call-once c.args.clause.now) only.0 only.1 c.lower_of.ensures c.in-Some-lower_of.is c.in-Minute.is c.within.ensures c.later_of.ensures
 
 pub early_failure-returns-in-Endless : goal.early_failure-returns-in-Endless
 early_failure-returns-in-Endless t c =
-    let only = rw c.in-Some.is at c.requires in
-    early-open _ _ _ _ _ (call-once c.args.clause.now) only.0 only.1 c.known_bound.ensures c.in-Some-known_bound.is c.in-Endless.is
+    let only = rw c.in-Some.is at c.requires.only_of in
+    early-open _ _ _ _ _ (call-once c.args.clause.now) only.0 only.1 c.lower_of.ensures c.in-Some-lower_of.is c.in-Endless.is
 
 -- failure_at_end: when a leaf fails at its upper bound
 
 -- nothing is before the upper bound
 pub failure_at_end-returns-in_default-first_of : goal.failure_at_end-returns-in_default-first_of
 failure_at_end-returns-in_default-first_of t c =
-    fails-empty _ _ _ _ _ c.known_bound.ensures c.in-Some.is c.reached.ensures c.in-At.is
+    fails-empty _ _ _ _ _ c.requires.upper_of c.in-Some.is c.reached.ensures c.in-At.is
     c.first_of.ensures c.in_default-first_of.is c.later_of.ensures
 
 -- something is in the window
 pub failure_at_end-returns-in-At-first_of-2 : goal.failure_at_end-returns-in-At-first_of-2
 failure_at_end-returns-in-At-first_of-2 t c =
-    fails_met _ _ _ _ _ c.known_bound.ensures c.in-Some.is c.reached.ensures c.in-At.is
-    c.first_of.ensures c.in-At-first_of.is c.known_bound-2.ensures c.in-Some-known_bound.is
+    fails_met _ _ _ _ _ c.requires.upper_of c.in-Some.is c.reached.ensures c.in-At.is
+    c.first_of.ensures c.in-At-first_of.is c.lower_of.ensures c.in-Some-lower_of.is
     c.first_of-2.ensures c.in-At-first_of-2.is
 
 -- something is before the upper bound, nothing in the window
 pub failure_at_end-returns-in-Never : goal.failure_at_end-returns-in-Never
 failure_at_end-returns-in-Never t c =
-    fails-missed _ _ _ _ _ c.known_bound.ensures c.in-Some.is c.reached.ensures c.in-At.is
-    c.first_of.ensures c.in-At-first_of.is c.known_bound-2.ensures c.in-Some-known_bound.is
+    fails-missed _ _ _ _ _ c.requires.upper_of c.in-Some.is c.reached.ensures c.in-At.is
+    c.first_of.ensures c.in-At-first_of.is c.lower_of.ensures c.in-Some-lower_of.is
     c.first_of-2.ensures c.in-Never.is c.later_of-in-Never.ensures c.later_of-in-Never-2.ensures
 
 -- first_of: what is in a window of an event whose only happening is at hand
@@ -153,6 +153,27 @@ known_bound-returns-in_default-first t c = event-never _ _ _ _ _ _ _ c.first-in-
 pub known_bound-returns-in-At : goal.known_bound-returns-in-At
 known_bound-returns-in-At t c = search (plus-known, rules)
 
+-- known_by: a bound by what is at hand
+
+pub known_by-returns-in-Some-event_of : goal.known_by-returns-in-Some-event_of
+known_by-returns-in-Some-event_of t c =
+    let same : c.in-Some.at_hand.event ≡ c.in-Some-event_of.event = search rules in
+    let hand = rw c.in-Some.is at c.requires in
+    c.known_since.ensures ∙ ap (known_as c.args.bound) (hand ∙ rw same (sym (c.in-Some-event_of.ensures c.args.clause.now)))
+
+-- leaf_failure: when a leaf fails
+
+-- what is at hand for its upper bound
+pub leaf_failure-known_by-upper-requires : goal.leaf_failure-known_by-upper-requires
+leaf_failure-known_by-upper-requires t c = (omega arith, c.happening_of.ensures c.args.clause.now c.only_happening-only.ensures)
+
+-- its end is no later than the only happening
+pub leaf_failure-returns-then-ends_by : goal.leaf_failure-returns-then-ends_by
+leaf_failure-returns-then-ends_by t c =
+    let (e, f, end, only, by) = c.ends_by.ensures c.if-ends_by.true in
+    let once = rw only at c.only_happening-only.ensures in
+    ends-first _ _ _ _ _ (call-once c.args.clause.now) once.0 once.1 refl by end c.failure_at_end-at_end.ensures
+
 -- leaf_occurrence: when a leaf occurs
 
 -- both bounds are known
@@ -160,6 +181,11 @@ pub leaf_occurrence-returns : goal.leaf_occurrence-returns
 leaf_occurrence-returns t c =
     occurs _ _ _ _ _ c.known_bound.ensures c.in-Some.is c.known_bound-2.ensures c.in-Some-known_bound.is
     c.first_within-first.ensures c.later_of.ensures c.later_of-2.ensures
+
+-- lower_at_hand: the lower bound, where it is at hand or needed
+
+pub lower_at_hand-known_by-requires : goal.lower_at_hand-known_by-requires
+lower_at_hand-known_by-requires t c = (omega arith, c.hand_for_lower-hand.ensures c.args.clause.now c.requires.only_of c.requires.upper_of)
 
 -- only_happening: the only happening of a leaf's event
 

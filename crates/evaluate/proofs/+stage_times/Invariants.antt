@@ -25,19 +25,22 @@ abbrev pub decreases-failure_at_end : goal.decreases-failure_at_end
 decreases-failure_at_end l = l.clause.now.rank * 512 + 8
 
 abbrev pub decreases-first : goal.decreases-first
-decreases-first l = l.clause.now.rank * 512 + 6
+decreases-first l = l.clause.now.rank * 512 + 4
 
 abbrev pub decreases-first_of : goal.decreases-first_of
-decreases-first_of l = l.clause.now.rank * 512 + 6
+decreases-first_of l = l.clause.now.rank * 512 + 4
 
 abbrev pub decreases-first_within : goal.decreases-first_within
-decreases-first_within l = l.clause.now.rank * 512 + 5
+decreases-first_within l = l.clause.now.rank * 512 + 3
 
 abbrev pub decreases-happening : goal.decreases-happening
-decreases-happening l = l.clause.now.rank * 512 + 4
+decreases-happening l = l.clause.now.rank * 512 + 2
 
 abbrev pub decreases-known_bound : goal.decreases-known_bound
-decreases-known_bound l = l.clause.now.rank * 512 + 7
+decreases-known_bound l = l.clause.now.rank * 512 + 5
+
+abbrev pub decreases-known_by : goal.decreases-known_by
+decreases-known_by l = l.clause.now.rank * 512 + 6
 
 abbrev pub decreases-leaf_failure : goal.decreases-leaf_failure
 decreases-leaf_failure l = l.clause.now.rank * 512 + 9
@@ -45,11 +48,17 @@ decreases-leaf_failure l = l.clause.now.rank * 512 + 9
 abbrev pub decreases-leaf_occurrence : goal.decreases-leaf_occurrence
 decreases-leaf_occurrence l = l.clause.now.rank * 512 + 8
 
+abbrev pub decreases-lower_at_hand : goal.decreases-lower_at_hand
+decreases-lower_at_hand l = l.clause.now.rank * 512 + 7
+
+abbrev pub decreases-lower_of : goal.decreases-lower_of
+decreases-lower_of l = l.clause.now.rank * 512 + 7
+
 abbrev pub decreases-occurrence : goal.decreases-occurrence
 decreases-occurrence l = l.clause.now.rank * 512 + l.spot.items * 8 + 10
 
 abbrev pub decreases-only_happening : goal.decreases-only_happening
-decreases-only_happening l = l.clause.now.rank * 512 + 7
+decreases-only_happening l = l.clause.now.rank * 512 + 5
 
 abbrev pub decreases-stage_time : goal.decreases-stage_time
 decreases-stage_time l = rank l.stage l.schema * 512 + 511

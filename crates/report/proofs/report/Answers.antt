@@ -1,5 +1,5 @@
 -- `report` meets its contract: the checks of call 2, then the page's length, then the rows. Assumes nothing.
-use mathlib.Core.Path.{◌≡◌}
+use mathlib.Core.Path.{◌≡◌, ◌∙◌}
 use mathlib.Core.List.{List, ◌++◌}
 use Rattle.std.proofs.lemmas.Result.{err_from_is_err_and}
 use Rattle.format.specs.Records.{value_width}
@@ -22,12 +22,13 @@ returns-in_err-call c =
 pub returns-then-too_short : goal.returns-then-too_short
 returns-then-too_short c =
     let a = c.args in
-    report-short a.terms.now a.log.now a.used a.moment a.page.now (kept (goal.at.returns-then-too_short c).In_ok-call)
-    (rw (c.in_ok-call.ensures.bytes.0, c.in_ok-call.ensures.bytes.1, c.of-outline.ensures) at c.too_short.ensures) c.if-too_short.true
+    let call = c.in_ok-call.ensures.bytes in
+    report-short a.terms.now a.log.now a.used a.moment a.page.now (kept (goal.at.returns-then-too_short c).In_ok-call) (call.0 ∙ c.of-outline.ensures) call.1
+    c.too_short.ensures c.if-too_short.true
 
 pub returns : goal.returns
 returns c =
     let a = c.args in
-    report-written a.terms.now a.log.now a.used a.moment a.page.now (kept (goal.at.returns c).In_ok-call)
-    (rw (c.in_ok-call.ensures.bytes.0, c.in_ok-call.ensures.bytes.1, c.of-outline.ensures) at c.too_short.ensures) c.if-too_short.false
-    (rw (c.in_ok-call.ensures.bytes.0, c.in_ok-call.ensures.bytes.1, c.of-outline.ensures) at c.write_rows.ensures)
+    let call = c.in_ok-call.ensures.bytes in
+    report-written a.terms.now a.log.now a.used a.moment a.page.now (kept (goal.at.returns c).In_ok-call) (call.0 ∙ c.of-outline.ensures) call.1
+    c.too_short.ensures c.if-too_short.false c.write_rows.ensures
