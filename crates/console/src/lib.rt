@@ -1,6 +1,8 @@
 // What the programs share: buffers filled from their input, and the rows of a report as values and lines.
 #![tactic(auto)]
 
+mod rows;
+
 ghost use Rattle.std.specs.Prelude.{◌≡◌, ◌≢◌, ℕ, ◌⊎◌, List, ◌++◌, IfOk, IfSome, IsFalse, IsNone, IsOk, OnOk, ◌≤◌, length, take};
 ghost use Rattle.std.specs.Io.KnownBytes.{Consumes};
 ghost use Rattle.meaning.specs.declared.Row.{Row};
@@ -11,6 +13,7 @@ ghost use Rattle.console.specs.Rows.{StartsWithRow, rows_bytes};
 use grammar::u32_at;
 use meaning::{Row, Stage};
 use report::ROW_LENGTH;
+pub use rows::split_rows;
 use std::io;
 use std::io::Read;
 
